@@ -1,0 +1,2 @@
+-- Laws of a line's bytes that count.
+pub mod Kept

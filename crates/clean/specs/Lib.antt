@@ -1,0 +1,2 @@
+-- What counts of a line's bytes.
+pub mod Clean

@@ -1,0 +1,58 @@
+// A line's bytes as its commands are read: space and CR dropped, letters made capitals.
+ghost use mathlib.Core.Path.{_≡_};
+ghost use Prim.Native.Nat.{_≤_};
+ghost use lib.ListN.{take};
+ghost use Rattle.clean.specs.Clean.{isDropped, capital, cleaned, shown};
+
+// The most bytes that a line has before its end.
+pub const LINE: usize = 256;
+
+// The first len bytes are those of the line.
+pub struct Cleaned {
+    pub bytes: [u8; 256],
+    pub len: usize,
+}
+
+fn is_dropped(b: u8) -> bool
+    ensures { λ r. ⌜ r ≡ isDropped b ⌝ }
+{
+    if b == b' ' {
+        return true;
+    }
+    b == b'\r'
+}
+
+fn capital_of(b: u8) -> u8
+    ensures { λ r. ⌜ r ≡ capital b ⌝ }
+{
+    if b < b'a' {
+        return b;
+    }
+    if b'z' < b {
+        return b;
+    }
+    b - 32
+}
+
+// The line's bytes that count, of which a lawful line has at most 256.
+pub fn clean(line: &[u8]) -> Cleaned
+    ensures { λ r. ⌜ (shown r ≡ take 256 (cleaned (now (line .entry)))) × (r .len ≤ 256) ⌝ }
+{
+    let mut bytes = [0u8; 256];
+    let mut len = 0;
+    let mut i = 0;
+    while i < line.len() {
+        let b = line[i];
+        let skip = is_dropped(b);
+        if skip {
+            i += 1;
+        } else if len < 256 {
+            bytes[len] = capital_of(b);
+            len += 1;
+            i += 1;
+        } else {
+            i += 1;
+        }
+    }
+    Cleaned { bytes, len }
+}

@@ -1,0 +1,31 @@
+-- `command::take_setting` meets its contract. Assumes nothing.
+use mathlib.Core.Path.{sym, _∙_}
+use Rattle.command.specs.Taken.{settingTaken}
+use borrow.Author.Needs.{needs}
+use Rattle.command.proofs.take_setting.Statement.{statement}
+use Rattle.command.proofs.take_setting.Tie as tie
+
+take-value-requires : tie.Need-take-value-requires
+take-value-requires c κs = search needs
+
+enum-known-value : tie.Need-enum-known-value
+enum-known-value c = search needs
+
+enum-told : tie.Need-enum-told
+enum-told c = search needs
+
+returns : tie.Need-returns
+unfolding settingTaken
+returns c = rw (sym (c .before .before .take-value .ensures) ∙ c .enum-told .given .1)
+
+taken-as-requires : tie.Need-taken-as-requires
+taken-as-requires c κs = search needs
+
+returns-2 : tie.Need-returns-2
+unfolding settingTaken
+returns-2 c = c .taken-as .ensures ∙ rw (sym (c .before .before .before .before .take-value .ensures) ∙ c .before .before .value .given .1)
+
+pub take-setting-spec : {M : Type 1} → statement M
+take-setting-spec =
+    tie.close
+    (tie.spec take-value-requires enum-known-value enum-told returns taken-as-requires returns-2)

@@ -1,0 +1,144 @@
+-- What a command's text is read as: document 01, "Lines and commands", "Settings" and refusals 1 and 2.
+use Prim.Native.Nat.{ℕ, _+_, _-_, _*_}
+use mathlib.Core.Bool.{true, cond, _&&_}
+use mathlib.Core.List.{List, [], _∷_}
+use lib.Dec.{ltb}
+use lib.ListN.{length, take, drop}
+use Rattle.number.specs.Number.{isNumber, begins}
+use Rattle.number.specs.Value.{exactOf, argumentOf}
+use Rattle.number.specs.declared.Range.{Range}
+use Rattle.number.specs.declared.Argument.{Argument}
+use Rattle.number.specs.declared.Argument.the-variants as argument
+use Rattle.settings.specs.Setting.{settingOf}
+use Rattle.refusal.specs.declared.Refusal.the-variants.{Malformed, OutOfRange}
+use Rattle.name.specs.Names.{meaningOf}
+use Rattle.name.specs.declared.Register.{Register}
+use Rattle.name.specs.declared.Form.{Form}
+use Rattle.name.specs.declared.Meaning.{Meaning}
+use Rattle.name.specs.declared.Meaning.the-variants as meaning
+use Rattle.command.specs.Arguments.{arguments}
+use Rattle.command.specs.declared.SetArgument.the-variants as set
+use Rattle.command.specs.declared.QueryArgument.the-variants as query
+use Rattle.command.specs.declared.Kind.{Kind}
+use Rattle.command.specs.declared.Kind.the-variants.{Set, Query, Act}
+use Rattle.command.specs.declared.Parsed.{Parsed}
+use Rattle.command.specs.declared.Parsed.the-variants.{Empty, Taken, Refused}
+
+abbrev pub taken : Kind → Parsed
+taken k = Taken (record { kind = k })
+
+-- refusal 1: "name that is no command here, wrong form, count or number text, "?" missing or unwanted"
+abbrev pub malformed : Parsed
+malformed = Refused Malformed
+
+-- refusal 2: "a value out of range or not whole"
+abbrev pub with : Argument → (ℕ → Parsed) → Parsed
+with (argument.Value v) k = k v
+with argument.Refused k = Refused OutOfRange
+
+-- so many arguments, each a number's text; only then are their values looked at, left to right
+unfoldable pub one : (List ℕ → Parsed) → List (List ℕ) → Parsed
+one k [] = malformed
+one k (a ∷ []) = cond (isNumber a) (k a) malformed
+one k (a ∷ b ∷ more) = malformed
+
+unfoldable pub two : (List ℕ → List ℕ → Parsed) → List (List ℕ) → Parsed
+two k [] = malformed
+two k (a ∷ []) = malformed
+two k (a ∷ b ∷ []) = cond (isNumber a && isNumber b) (k a b) malformed
+two k (a ∷ b ∷ c ∷ more) = malformed
+
+unfoldable pub three : (List ℕ → List ℕ → List ℕ → Parsed) → List (List ℕ) → Parsed
+three k [] = malformed
+three k (a ∷ []) = malformed
+three k (a ∷ b ∷ []) = malformed
+three k (a ∷ b ∷ c ∷ []) = cond (isNumber a && (isNumber b && isNumber c)) (k a b c) malformed
+three k (a ∷ b ∷ c ∷ d ∷ more) = malformed
+
+-- "A whole-number argument must be whole in value"
+abbrev pub wholeRange : ℕ → ℕ → Range
+wholeRange low high = record { bias = 0; low = low; high = high; step = 1; whole = true }
+
+abbrev pub wholeOf : ℕ → ℕ → List ℕ → Argument
+wholeOf low high a = argumentOf (wholeRange low high) (exactOf 0 a)
+
+-- a setting without channels: "PHAS x", "FMOD i" ..
+unfoldable pub setSetting : ℕ → List (List ℕ) → Parsed
+setSetting entry = one λ x. with (settingOf entry x) λ v. taken (Set (set.Value entry v))
+
+-- "FPOP i,j", "AUXV i,x": i picks the channel
+unfoldable pub setChannel : ℕ → ℕ → List (List ℕ) → Parsed
+setChannel base channels =
+    two λ i x. with (wholeOf 1 channels i) λ n. with (settingOf base x) λ v. taken (Set (set.Value (base + (n - 1)) v))
+
+-- "DDEF i,j,k", "OEXP i,x,j"
+unfoldable pub setChannelPair : ℕ → ℕ → List (List ℕ) → Parsed
+setChannelPair base channels =
+    three λ i x y. with (wholeOf 1 channels i) λ n. with (settingOf base x) λ v. with (settingOf (base + 1) y) λ w. taken (Set (set.Pair (base + 2 * (n - 1)) v w))
+
+-- "*ESE, *SRE, LIAE and ERRE take one value 0-255, or bit 0-7 and 0 or 1"
+unfoldable pub setEnable : Register → List (List ℕ) → Parsed
+setEnable r [] = malformed
+setEnable r (v ∷ []) = one (λ v. with (wholeOf 0 255 v) λ x. taken (Set (set.Enable r x))) (v ∷ [])
+setEnable r (i ∷ v ∷ more) = two (λ i v. with (wholeOf 0 7 i) λ b. with (wholeOf 0 1 v) λ x. taken (Set (set.EnableBit r b x))) (i ∷ v ∷ more)
+
+-- "Where i picks a channel the query takes only i"
+unfoldable pub queryChannel : ℕ → ℕ → List (List ℕ) → Parsed
+queryChannel base channels = one λ i. with (wholeOf 1 channels i) λ n. taken (Query (query.Value (base + (n - 1))))
+
+unfoldable pub queryChannelPair : ℕ → ℕ → List (List ℕ) → Parsed
+queryChannelPair base channels = one λ i. with (wholeOf 1 channels i) λ n. taken (Query (query.Pair (base + 2 * (n - 1))))
+
+-- "queries take nothing or a bit"
+unfoldable pub queryEnable : Register → List (List ℕ) → Parsed
+queryEnable r [] = taken (Query (query.Enable r))
+queryEnable r (i ∷ more) = one (λ i. with (wholeOf 0 7 i) λ b. taken (Query (query.EnableBit r b))) (i ∷ more)
+
+-- "*ESR?, LIAS? and ERRS? ..; with an argument i (0-7) only bit i", "*STB? takes nothing or a bit"
+unfoldable pub queryStatus : Register → List (List ℕ) → Parsed
+queryStatus r [] = taken (Query (query.Status r))
+queryStatus r (i ∷ more) = one (λ i. with (wholeOf 0 7 i) λ b. taken (Query (query.StatusBit r b))) (i ∷ more)
+
+-- "TRCL? i,j,k", "i is 1-2, j 0-16383, k 1-16383"
+unfoldable pub queryTrace : Form → List (List ℕ) → Parsed
+queryTrace form =
+    three λ i j k. with (wholeOf 1 2 i) λ t. with (wholeOf 0 16383 j) λ b. with (wholeOf 1 16383 k) λ n. taken (Query (query.Trace form t b n))
+
+-- no argument
+unfoldable pub alone : Kind → List (List ℕ) → Parsed
+alone k [] = taken k
+alone k (a ∷ more) = malformed
+
+-- a name and its arguments, without "?"
+unfoldable pub setWith : Meaning → List (List ℕ) → Parsed
+setWith (meaning.Setting entry) args = setSetting entry args
+setWith (meaning.Channel base channels) args = setChannel base channels args
+setWith (meaning.ChannelPair base channels) args = setChannelPair base channels args
+setWith (meaning.Enable r) args = setEnable r args
+setWith (meaning.Status r) args = malformed
+setWith meaning.Identity args = malformed
+setWith meaning.Points args = malformed
+setWith (meaning.Trace form) args = malformed
+setWith (meaning.Act a) args = alone (Act a) args
+setWith meaning.Unknown args = malformed
+
+-- a name and its arguments, with "?"
+unfoldable pub queryWith : Meaning → List (List ℕ) → Parsed
+queryWith (meaning.Setting entry) args = alone (Query (query.Value entry)) args
+queryWith (meaning.Channel base channels) args = queryChannel base channels args
+queryWith (meaning.ChannelPair base channels) args = queryChannelPair base channels args
+queryWith (meaning.Enable r) args = queryEnable r args
+queryWith (meaning.Status r) args = queryStatus r args
+queryWith meaning.Identity args = alone (Query query.Identity) args
+queryWith meaning.Points args = alone (Query query.Points) args
+queryWith (meaning.Trace form) args = queryTrace form args
+queryWith (meaning.Act a) args = malformed
+queryWith meaning.Unknown args = malformed
+
+-- "A command is four letters, or "*" and three, then "?" for a query, then arguments divided by ","": the text of one command, cleaned
+unfoldable pub parsedOf : List ℕ → Parsed
+parsedOf [] = Empty
+parsedOf (b ∷ bs) =
+    let s = b ∷ bs in
+    cond (ltb (length s) 4) malformed
+    (cond (begins 63 (drop 4 s)) (queryWith (meaningOf (take 4 s)) (arguments (drop 5 s))) (setWith (meaningOf (take 4 s)) (arguments (drop 4 s))))

@@ -1,0 +1,2 @@
+-- Laws on bytes divided at a separator.
+pub mod Span

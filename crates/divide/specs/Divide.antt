@@ -1,0 +1,27 @@
+-- Bytes divided at a separator: commands at ";", arguments at ",", lines at LF, a number at its point and at "E".
+use mathlib.Core.Bool.{cond}
+use mathlib.Core.List.{List, [], _∷_}
+use Prim.Native.Nat.{ℕ, suc}
+use lib.Dec.{eqb}
+use lib.ListN.{take, drop}
+
+-- how many bytes stand before the first separator
+unfoldable pub span : ℕ → List ℕ → ℕ
+span sep [] = 0
+span sep (b ∷ bs) = cond (eqb b sep) 0 (suc (span sep bs))
+
+-- the bytes before the first separator, and those after it
+abbrev pub before : ℕ → List ℕ → List ℕ
+before sep s = take (span sep s) s
+
+abbrev pub after : ℕ → List ℕ → List ℕ
+after sep s = drop (suc (span sep s)) s
+
+unfoldable pub onHead : ℕ → List (List ℕ) → List (List ℕ)
+onHead b [] = (b ∷ []) ∷ []
+onHead b (p ∷ ps) = (b ∷ p) ∷ ps
+
+-- the parts that separators divide: one more than there are separators
+unfoldable pub parts : ℕ → List ℕ → List (List ℕ)
+parts sep [] = [] ∷ []
+parts sep (b ∷ bs) = cond (eqb b sep) ([] ∷ parts sep bs) (onHead b (parts sep bs))

@@ -1,0 +1,74 @@
+-- Names found by their bytes as one number are names found by their bytes. Assumes nothing.
+use Prim.Native.Nat.{ℕ, _+_, _<_}
+use mathlib.Core.Path.{_≡_, refl}
+use mathlib.Core.Bool.{Bool, true, false, cond, _&&_}
+use mathlib.Core.List.{List, [], _∷_}
+use native.Mathlib.Omega.{arith}
+use native.Mathlib.Numerals.{add-one}
+use lib.Dec.{T, eqb, ltb, ltb→lt}
+use lib.ListN.{length, getD, drop}
+use lib.Seq.{drop-cons}
+use borrow.Author.Tests.{eq-eqb, ne-eqb, eqb-true, eqb-false}
+use Rattle.name.specs.Names.{Named, commands, sameBytes, meaningIn, meaningOf}
+use Rattle.name.specs.Word.{word, foundIn, foundOf}
+use Rattle.name.specs.declared.Meaning.the-variants.{Unknown}
+
+abbrev pub noName : Named
+noName = record { name = []; meaning = Unknown }
+
+-- one entry of the list
+pub found-step : (w : ℕ) (ns : List Named) (i : ℕ) → i < length ns →
+    foundIn (drop i ns) w ≡ cond (eqb (word (getD ns i noName .name)) w) (getD ns i noName .meaning) (foundIn (drop (i + 1) ns) w)
+unfolding foundIn
+found-step w ns i h = rw (add-one, drop-cons ns i noName h)
+
+-- four bytes
+abbrev pub isFour : List ℕ → Bool
+isFour (a ∷ b ∷ c ∷ d ∷ []) = ltb a 256 && (ltb b 256 && (ltb c 256 && ltb d 256))
+isFour [] = false
+isFour (a ∷ []) = false
+isFour (a ∷ b ∷ []) = false
+isFour (a ∷ b ∷ c ∷ []) = false
+isFour (a ∷ b ∷ c ∷ d ∷ e ∷ s) = false
+
+abbrev allFour : List Named → Bool
+allFour [] = true
+allFour (n ∷ ns) = isFour (n .name) && allFour ns
+
+module _ (a b c d e f g h : ℕ) (ha : a < 256) (hb : b < 256) (hc : c < 256) (hd : d < 256) (he : e < 256) (hf : f < 256) (hg : g < 256) (hh : h < 256) where
+  same-word : eqb (word (a ∷ b ∷ c ∷ d ∷ [])) (word (e ∷ f ∷ g ∷ h ∷ [])) ≡ sameBytes (a ∷ b ∷ c ∷ d ∷ []) (e ∷ f ∷ g ∷ h ∷ [])
+  same-word = by (eqb a e) (eqb b f) (eqb c g) (eqb d h) refl refl refl refl where
+    by : (p q r s : Bool) → eqb a e ≡ p → eqb b f ≡ q → eqb c g ≡ r → eqb d h ≡ s →
+        eqb (word (a ∷ b ∷ c ∷ d ∷ [])) (word (e ∷ f ∷ g ∷ h ∷ [])) ≡ (p && (q && (r && (s && true))))
+    by true true true true i j k l =
+        eq-eqb (word (a ∷ b ∷ c ∷ d ∷ [])) (word (e ∷ f ∷ g ∷ h ∷ [])) (omega (arith, eqb-true a e i, eqb-true b f j, eqb-true c g k, eqb-true d h l))
+    by true true true false i j k l = ne-eqb (word (a ∷ b ∷ c ∷ d ∷ [])) (word (e ∷ f ∷ g ∷ h ∷ [])) (λ z. eqb-false d h l (omega arith))
+    by true true false s i j k l = ne-eqb (word (a ∷ b ∷ c ∷ d ∷ [])) (word (e ∷ f ∷ g ∷ h ∷ [])) (λ z. eqb-false c g k (omega arith))
+    by true false r s i j k l = ne-eqb (word (a ∷ b ∷ c ∷ d ∷ [])) (word (e ∷ f ∷ g ∷ h ∷ [])) (λ z. eqb-false b f j (omega arith))
+    by false q r s i j k l = ne-eqb (word (a ∷ b ∷ c ∷ d ∷ [])) (word (e ∷ f ∷ g ∷ h ∷ [])) (λ z. eqb-false a e i (omega arith))
+
+both-true : (a b : Bool) → T (a && b) → T a × T b
+both-true true b t = (tt, t)
+both-true false b t = absurd t
+
+same-four : (s t : List ℕ) → T (isFour s) → T (isFour t) → eqb (word s) (word t) ≡ sameBytes s t
+same-four (a ∷ b ∷ c ∷ d ∷ []) (e ∷ f ∷ g ∷ h ∷ []) p q =
+    let p1 = both-true (ltb a 256) _ p in
+    let p2 = both-true (ltb b 256) _ (p1 .1) in
+    let p3 = both-true (ltb c 256) _ (p2 .1) in
+    let q1 = both-true (ltb e 256) _ q in
+    let q2 = both-true (ltb f 256) _ (q1 .1) in
+    let q3 = both-true (ltb g 256) _ (q2 .1) in
+    same-word a b c d e f g h (ltb→lt a 256 (p1 .0)) (ltb→lt b 256 (p2 .0)) (ltb→lt c 256 (p3 .0)) (ltb→lt d 256 (p3 .1))
+    (ltb→lt e 256 (q1 .0)) (ltb→lt f 256 (q2 .0)) (ltb→lt g 256 (q3 .0)) (ltb→lt h 256 (q3 .1))
+
+found-is : (ns : List Named) → T (allFour ns) → (s : List ℕ) → T (isFour s) → foundIn ns (word s) ≡ meaningIn ns s
+unfolding foundIn meaningIn
+found-is [] t s f = refl
+found-is (n ∷ ns) t s f =
+    let b = both-true (isFour (n .name)) (allFour ns) t in
+    rw (same-four (n .name) s (b .0) f, found-is ns (b .1) s f)
+
+-- the search by one number is the search by four bytes
+pub found-word : (s : List ℕ) → T (isFour s) → foundOf (word s) ≡ meaningOf s
+found-word s f = found-is commands tt s f

@@ -1,0 +1,3 @@
+-- The command names and what each stands for.
+pub mod Names
+pub mod Word

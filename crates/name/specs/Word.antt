@@ -1,0 +1,23 @@
+-- A name's four bytes as one number, by which the list is searched (proofs/Words.antt: it is the search by bytes).
+use Prim.Native.Nat.{ℕ, _+_, _*_}
+use mathlib.Core.Bool.{cond}
+use mathlib.Core.List.{List, [], _∷_}
+use lib.Dec.{eqb}
+use Rattle.name.specs.Names.{Named, commands}
+use Rattle.name.specs.declared.Meaning.{Meaning}
+use Rattle.name.specs.declared.Meaning.the-variants.{Unknown}
+
+abbrev pub wordAfter : ℕ → List ℕ → ℕ
+wordAfter v [] = v
+wordAfter v (b ∷ bs) = wordAfter (v * 256 + b) bs
+
+-- bytes as one number, the first highest
+abbrev pub word : List ℕ → ℕ
+word bs = wordAfter 0 bs
+
+unfoldable pub foundIn : List Named → ℕ → Meaning
+foundIn [] w = Unknown
+foundIn (n ∷ ns) w = cond (eqb (word (n .name)) w) (n .meaning) (foundIn ns w)
+
+abbrev pub foundOf : ℕ → Meaning
+foundOf w = foundIn commands w

@@ -1,0 +1,43 @@
+-- The bounds of a word's parts, and what TRCB sends in each of its three cases. Assumes nothing.
+use Prim.Native.Nat.{ℕ, _-_, _%_, _≤_}
+use native.Mathlib.Omega.{arith}
+use mathlib.Core.Bool.{Bool, true, false, cond, and-eq-true-iff}
+use mathlib.Core.Path.{_≡_, refl}
+use lib.Dec.{leb, eqb}
+use borrow.Author.Tests.{leb-true, leb-false, eq-eqb, ne-eqb}
+use Rattle.point.specs.Point.{isNegative, magnitudeOf, exponentOf, topByte, isLegal, singleOf, floatOf}
+
+pub magnitude-le : (w : ℕ) → magnitudeOf w ≤ 32768
+unfolding magnitudeOf
+magnitude-le w = by (isNegative w) refl
+  where
+    by : (t : Bool) → leb 32768 (w % 65536) ≡ t → cond t (65536 - w % 65536) (w % 65536) ≤ 32768
+    by true h = omega (arith, leb-true)
+    by false h = omega (arith, leb-false)
+
+-- m = 0 has no minus sign
+pub zero-positive : (w : ℕ) → magnitudeOf w ≡ 0 → isNegative w ≡ false
+unfolding magnitudeOf
+zero-positive w = by (isNegative w) refl
+  where
+    by : (t : Bool) → leb 32768 (w % 65536) ≡ t → cond t (65536 - w % 65536) (w % 65536) ≡ 0 → t ≡ false
+    by true h z = absurd (omega arith)
+    by false h z = refl
+
+pub exponent-le : (w : ℕ) → isLegal w ≡ true → exponentOf w ≤ 236
+unfolding isLegal
+exponent-le w h = leb-true (exponentOf w) 236 (and-eq-true-iff (eqb (topByte w) 0) (leb (exponentOf w) 236) .0 h .1)
+
+module _ (w : ℕ) where
+  pub no-point : isLegal w ≡ false → floatOf w ≡ 0x7FC00000
+  unfolding floatOf
+  no-point l = rw l
+
+  pub no-magnitude : isLegal w ≡ true → magnitudeOf w ≡ 0 → floatOf w ≡ 0
+  unfolding floatOf
+  no-magnitude l z = rw (l, eq-eqb (magnitudeOf w) 0 z)
+
+  pub some-magnitude : {a e : ℕ} {s : Bool} → isLegal w ≡ true → a ≡ magnitudeOf w → (a ≡ 0 → ⊥) → e ≡ exponentOf w → s ≡ isNegative w
+      → floatOf w ≡ singleOf s a e
+  unfolding floatOf
+  some-magnitude {a} l m z x n = rw (l, ← m, ← x, ← n, ne-eqb a 0 z)

@@ -1,0 +1,17 @@
+-- The bytes of a word, low byte first, and the number that bytes make. Assumes nothing.
+use Prim.Native.Nat.{ℕ, zero, suc, _+_, _*_, _/_, _%_}
+use mathlib.Core.List.{List, [], _∷_}
+
+-- the k lowest bytes of x, the lowest of them first
+unfoldable pub lowFirst : ℕ → ℕ → List ℕ
+lowFirst zero x = []
+lowFirst (suc k) x = x % 256 ∷ lowFirst k (x / 256)
+
+-- "TRCL? i,j,k sends k words from bin j, low byte first.": a 32-bit word has four bytes
+unfoldable pub littleEndian : ℕ → List ℕ
+littleEndian x = lowFirst 4 x
+
+-- the number that bytes make, the lowest of them first
+unfoldable pub numberOf : List ℕ → ℕ
+numberOf [] = 0
+numberOf (b ∷ bs) = b + 256 * numberOf bs

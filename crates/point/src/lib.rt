@@ -1,0 +1,87 @@
+// Points of a trace: which words are legal, the IEEE single that TRCB sends for one, and a word's four bytes.
+ghost use mathlib.Core.Bool.{false};
+ghost use mathlib.Core.Path.{_≡_};
+ghost use Prim.Native.Nat.{_≤_, _<_};
+ghost use Rattle.point.specs.Point.{isLegal, isNegative, magnitudeOf, exponentOf, singleOf, floatOf};
+ghost use Rattle.point.specs.Bytes.{littleEndian};
+
+// A legal point's exponent is at most this.
+const MAX_EXPONENT: u32 = 236;
+// A single's sign bit.
+const SIGN: u32 = 0x8000_0000;
+// The weight of a single's exponent field, and of the highest digit, which its fraction field hides.
+const HIDDEN: u32 = 0x0080_0000;
+// What is sent for a word that is no legal point: 00 00 C0 7F.
+const NO_POINT: u32 = 0x7FC0_0000;
+
+// The third byte, the point's exponent e.
+fn exponent(word: u32) -> u32
+    ensures { λ r. ⌜ r ≡ exponentOf word ⌝ }
+{
+    word / 65536 % 256
+}
+
+// Whether the word is a legal point: top byte 0, e at most 236.
+pub fn legal(word: u32) -> bool
+    ensures { λ r. ⌜ r ≡ isLegal word ⌝ }
+{
+    word / 16777216 == 0 && exponent(word) <= MAX_EXPONENT
+}
+
+// Whether m, the low 16 bits as a signed number, is negative.
+fn negative(word: u32) -> bool
+    ensures { λ r. ⌜ r ≡ isNegative word ⌝ }
+{
+    32768 <= word % 65536
+}
+
+// The magnitude of m.
+fn magnitude(word: u32) -> u32
+    ensures { λ r. ⌜ r ≡ magnitudeOf word ⌝ }
+{
+    if negative(word) {
+        return 65536 - word % 65536;
+    }
+    word % 65536
+}
+
+// The single of value a * 2^(e - 124): the leading zeros of a give its exponent and the shift of its fraction.
+fn single(a: u32, e: u32) -> u32
+    requires { ⌜ (0 < a) × (a ≤ 32768) ⌝ }
+    requires { ⌜ e ≤ 236 ⌝ }
+    ensures { λ r. ⌜ r ≡ singleOf false a e ⌝ }
+{
+    let zeros = u32::leading_zeros(a);
+    let field = 31 - zeros + e + 3;
+    let fraction = (a << (zeros - 8)) - HIDDEN;
+    field * HIDDEN + fraction
+}
+
+// The pattern of the IEEE single that TRCB sends for the word.
+pub fn float_bits(word: u32) -> u32
+    ensures { λ r. ⌜ r ≡ floatOf word ⌝ }
+{
+    if legal(word) {
+        let a = magnitude(word);
+        if a == 0 {
+            return 0;
+        }
+        let bits = single(a, exponent(word));
+        if negative(word) {
+            return SIGN + bits;
+        }
+        return bits;
+    }
+    NO_POINT
+}
+
+// The four bytes of x, low byte first.
+pub fn word_bytes(x: u32) -> [u8; 4]
+    ensures { λ r. ⌜ r ≡ littleEndian x ⌝ }
+{
+    let low = (x % 256) as u8;
+    let second = (x / 256 % 256) as u8;
+    let third = (x / 65536 % 256) as u8;
+    let top = (x / 16777216) as u8;
+    [low, second, third, top]
+}

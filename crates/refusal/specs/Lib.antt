@@ -1,0 +1,2 @@
+-- The refusals' meaning.
+pub mod Meaning

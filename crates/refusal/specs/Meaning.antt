@@ -1,0 +1,38 @@
+-- The number and the standard event bits of each refusal: document 01, "Refusal numbers" and "Events, status, identity".
+use Prim.Native.Nat.{ℕ, _^_}
+use Rattle.refusal.specs.declared.Refusal.{Refusal}
+use Rattle.refusal.specs.declared.Refusal.the-variants.{Malformed, OutOfRange, NotAllowed, NoRoom, LongLine, BadEvent, NoReset, LongScriptLine, BadTraces, BadStart, BadState}
+use Rattle.refusal.specs.declared.Meaning.{Meaning}
+
+-- "Standard event bits: 0 INP, 2 QRY, 4 EXE, 5 CMD"
+abbrev pub inp : ℕ
+inp = 2 ^ 0
+
+abbrev pub qry : ℕ
+qry = 2 ^ 2
+
+abbrev pub exe : ℕ
+exe = 2 ^ 4
+
+abbrev pub cmd : ℕ
+cmd = 2 ^ 5
+
+abbrev pub none : ℕ
+none = 0
+
+abbrev numbered : ℕ → ℕ → Meaning
+numbered n b = record { number = n; bits = b }
+
+-- the table of refusal numbers, row by row
+abbrev pub meaningOf : Refusal → Meaning
+meaningOf Malformed = numbered 1 cmd
+meaningOf OutOfRange = numbered 2 exe
+meaningOf NotAllowed = numbered 3 exe
+meaningOf NoRoom = numbered 4 qry
+meaningOf LongLine = numbered 5 inp
+meaningOf BadEvent = numbered 6 none
+meaningOf NoReset = numbered 7 none
+meaningOf LongScriptLine = numbered 8 none
+meaningOf BadTraces = numbered 9 none
+meaningOf BadStart = numbered 10 none
+meaningOf BadState = numbered 11 none

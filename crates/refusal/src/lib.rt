@@ -1,0 +1,82 @@
+// The refusals of document 01, with the number and the standard event bit of each.
+ghost use mathlib.Core.Path.{_≡_};
+ghost use Rattle.refusal.specs.Meaning.{meaningOf};
+
+// Why a command, a line, an event, a script or a state is not taken.
+pub enum Refusal {
+    // No command here: unknown name, wrong form, count or number text, "?" missing or unwanted.
+    Malformed,
+    // A value out of range or not whole.
+    OutOfRange,
+    // Not allowed in this state.
+    NotAllowed,
+    // The reply exceeds the room left.
+    NoRoom,
+    // A line over 256 bytes.
+    LongLine,
+    // An event value that is not legal.
+    BadEvent,
+    // A script that does not begin with *RST.
+    NoReset,
+    // A script line over 256 bytes.
+    LongScriptLine,
+    // Traces unequal, empty, over 16383, or not the state's capacity.
+    BadTraces,
+    // At start, a serial over 99999 or an unknown port.
+    BadStart,
+    // A state outside the ranges, steps and limits.
+    BadState,
+}
+
+// The number that the papers give a refusal, and the standard event bits that it sets.
+pub struct Meaning {
+    pub number: u8,
+    pub bits: u8,
+}
+
+const INP: u8 = 1;
+
+const QRY: u8 = 4;
+
+const EXE: u8 = 16;
+
+const CMD: u8 = 32;
+
+pub fn meaning_of(refusal: Refusal) -> Meaning
+    ensures { λ r. ⌜ r ≡ meaningOf refusal ⌝ }
+{
+    match refusal {
+        Refusal::Malformed => Meaning {
+            number: 1,
+            bits: CMD,
+        },
+        Refusal::OutOfRange => Meaning {
+            number: 2,
+            bits: EXE,
+        },
+        Refusal::NotAllowed => Meaning {
+            number: 3,
+            bits: EXE,
+        },
+        Refusal::NoRoom => Meaning {
+            number: 4,
+            bits: QRY,
+        },
+        Refusal::LongLine => Meaning {
+            number: 5,
+            bits: INP,
+        },
+        Refusal::BadEvent => Meaning { number: 6, bits: 0 },
+        Refusal::NoReset => Meaning { number: 7, bits: 0 },
+        Refusal::LongScriptLine => Meaning { number: 8, bits: 0 },
+        Refusal::BadTraces => Meaning { number: 9, bits: 0 },
+        Refusal::BadStart => Meaning {
+            number: 10,
+            bits: 0,
+        },
+        Refusal::BadState => Meaning {
+            number: 11,
+            bits: 0,
+        },
+    }
+}

@@ -1,0 +1,55 @@
+-- Taking by whole units is taking by the exact value: FREQ's step is chosen alike. Assumes nothing.
+use Prim.Native.Nat.{ℕ, suc, _+_, _*_, _/_, _<_, _≤_, min}
+use mathlib.Core.Path.{_≡_, ap}
+use mathlib.Core.Bool.{Bool, true, false, cond}
+use mathlib.Core.List.{List}
+use native.Mathlib.Omega.{arith}
+use native.Mathlib.Nat.{div-lt-iff-lt-mul, one-le-pow}
+use lib.Dec.{ltb, eqb}
+use Rattle.number.specs.Value.{Exact, exactOf, argumentOf}
+use Rattle.number.specs.Quantity.{cap, quantityOf, takenOf}
+use Rattle.number.proofs.Exact.{Small, same-test, taken-exact}
+use Rattle.settings.specs.Table.{freq, rowOf}
+use Rattle.settings.specs.Frequency.{hertz, stepBy}
+use Rattle.settings.specs.Setting.{stepWith, rangeWith, exactStep, turnedAt, settingOf, stepOf, rangeOf, valueTaken}
+use Rattle.settings.proofs.Rows.{step-by, row-size}
+
+module _ (v : Exact) (pos : 0 < v .under) where
+  -- whole units are below k where the value is
+  below : (k : ℕ) → k ≤ cap → ltb (min cap (v .over / v .under)) k ≡ ltb (v .over) (k * v .under)
+  below k h =
+      same-test (suc (min cap (v .over / v .under))) k (suc (v .over)) (k * v .under)
+      (λ p. div-lt-iff-lt-mul pos .0 (omega arith))
+      (λ p. let l : v .over / v .under < k = div-lt-iff-lt-mul pos .1 p in omega arith)
+
+  step-exact : stepBy (λ k. ltb (min cap (v .over / v .under)) k) ≡ exactStep v
+  unfolding stepBy
+  step-exact =
+      rw (
+        below (hertz 10) (omega arith),
+        below (hertz 100) (omega arith),
+        below (hertz 1000) (omega arith),
+        below (hertz 10000) (omega arith),
+        below (hertz 100000) (omega arith),
+      )
+
+small : (entry own : ℕ) → own ≤ 100000 → Small (rangeWith entry (stepWith entry own))
+small entry own h = by (eqb entry freq) where
+  by : (t : Bool) → rowOf entry .bias + rowOf entry .high + cond t own (rowOf entry .step) < 4294967296
+  by true = omega (arith, row-size entry)
+  by false = omega (arith, row-size entry)
+
+taken : (entry : ℕ) (v : Exact) → 0 < v .under →
+    takenOf (rangeOf entry (quantityOf v .whole)) (quantityOf v) ≡ argumentOf (rangeWith entry (stepWith entry (exactStep v))) v
+unfolding rangeOf stepOf
+taken entry v pos =
+    rw (step-exact v pos) (taken-exact v pos (rangeWith entry (stepWith entry (exactStep v))) (small entry (exactStep v) (step-by _ .most)))
+
+pub under-pos : (decimals : ℕ) (s : List ℕ) → 0 < exactOf decimals s .under
+unfolding exactOf
+under-pos decimals s = one-le-pow _ 10 (omega arith)
+
+-- what the code takes of a number's text is what the text sets
+pub value-exact : (entry : ℕ) (s : List ℕ) → valueTaken entry (quantityOf (exactOf (rowOf entry .decimals) s)) ≡ settingOf entry s
+unfolding valueTaken settingOf
+value-exact entry s = ap (turnedAt entry) (taken entry (exactOf (rowOf entry .decimals) s) (under-pos (rowOf entry .decimals) s))

@@ -1,0 +1,9 @@
+-- Laws on the settings.
+pub mod Numbers
+pub mod Rows
+pub mod Every
+pub mod Phase
+pub mod Start
+pub mod Exact
+pub mod Rounded
+pub mod Kept

@@ -1,0 +1,10 @@
+-- `settings::within_limit` meets its contract: the two tests are with the same number. Assumes nothing.
+use mathlib.Core.Path.{refl}
+use Rattle.settings.proofs.within_limit.Statement.{statement}
+use Rattle.settings.proofs.within_limit.Tie as tie
+
+returns : tie.Need-returns
+returns c = refl
+
+pub within-limit-spec : {M : Type 1} → statement M
+within-limit-spec = tie.close (tie.spec returns)

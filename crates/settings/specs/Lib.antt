@@ -1,0 +1,5 @@
+-- What the settings are, and the rules that bind them: document 01, "Settings".
+pub mod Table
+pub mod Frequency
+pub mod Setting
+pub mod Allowed

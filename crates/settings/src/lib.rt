@@ -1,0 +1,361 @@
+// The settings of a lock-in module, by the table of document 01.
+ghost use mathlib.Core.Path.{_≡_};
+ghost use Rattle.settings.specs.Table.{rowOf, startSettings, turnedOf, valueOf, withValue};
+ghost use Rattle.settings.specs.Frequency.{frequencyStep, inForce, detectionOf, withinLimit, above200, timeConstantStands, crossingOf, frequencyInRange};
+ghost use Rattle.settings.specs.Setting.{stepOf, rangeOf, turnedAt, valueTaken};
+ghost use Rattle.settings.specs.Allowed.{keeps, keepsAll, allowedOf};
+
+mod table;
+
+// Entries of the table that rules name.
+pub const PHAS: usize = 0;
+
+pub const FMOD: usize = 1;
+
+pub const FREQ: usize = 2;
+
+pub const HARM: usize = 4;
+
+pub const SLVL: usize = 5;
+
+pub const OFLT: usize = 14;
+
+pub const SRAT: usize = 31;
+
+pub const SEND: usize = 32;
+
+pub const TSTR: usize = 33;
+
+pub const ENTRIES: usize = 34;
+
+// The capacity of the traces: the least and the most points.
+pub const CAPACITY_LEAST: u32 = 1;
+
+pub const CAPACITY_MOST: u32 = 16383;
+
+// FMOD with the internal frequency in force.
+pub const INTERNAL: u32 = 1;
+
+// Frequencies in units of 0.1 mHz: the range of FREQ and of the external frequency, the start of both, the limit of 102 kHz on the detection frequency, and the 200 Hz above which no long time constant stands.
+pub const FREQUENCY_LOW: u32 = 10;
+
+pub const FREQUENCY_HIGH: u32 = 1020000000;
+
+pub const FREQUENCY_START: u32 = 10000000;
+
+pub const DETECTION_LIMIT: u64 = 1020000000;
+
+pub const LONG_LIMIT: u64 = 2000000;
+
+// The longest time constant above 200 Hz.
+pub const LONGEST_ABOVE: u32 = 13;
+
+// LIA bits as masks: 200 Hz crossed, and the time constant changed.
+pub const CROSSED: u8 = 16;
+
+pub const SHORTENED: u8 = 32;
+
+// A turn of PHAS, and the lowest phase kept with its bias.
+const TURN: u64 = 36000;
+
+const PHASE_LEAST: u64 = 18001;
+
+// A setting's part of the table. A value x in units of the last decimal is kept as x + bias, and so are all values here: an argument may lie from low to high, a state keeps least to most.
+pub struct Row {
+    pub bias: u32,
+    pub low: u32,
+    pub high: u32,
+    pub least: u32,
+    pub most: u32,
+    pub step: u32,
+    pub decimals: u8,
+    pub start: u32,
+}
+
+// Every setting's value, by entry.
+pub struct Settings {
+    pub values: [u32; ENTRIES],
+}
+
+// What a change of the detection frequency does: the time constant after it, and the LIA bits that it sets.
+pub struct Crossing {
+    pub constant: u32,
+    pub bits: u8,
+}
+
+// The row of an entry past the table: it takes no value.
+const NO_ROW: Row = Row {
+    bias: 0,
+    low: 1,
+    high: 0,
+    least: 1,
+    most: 0,
+    step: 1,
+    decimals: 0,
+    start: 0,
+};
+
+impl Settings {
+    // The settings at start and after *RST.
+    pub fn start() -> Settings
+        ensures { λ r. ⌜ r ≡ startSettings ⌝ }
+    {
+        Settings {
+            values: table::START,
+        }
+    }
+}
+
+// The row of an entry.
+pub fn row_of(entry: usize) -> Row
+    ensures { λ r. ⌜ r ≡ rowOf entry ⌝ }
+{
+    if entry < ENTRIES {
+        let cells = table::TABLE[entry];
+        return Row {
+            bias: cells[0],
+            low: cells[1],
+            high: cells[2],
+            least: cells[3],
+            most: cells[4],
+            step: cells[5],
+            decimals: table::DECIMALS[entry],
+            start: table::START[entry],
+        };
+    }
+    NO_ROW
+}
+
+// The value of an entry, 0 past the table.
+pub fn value_of(s: Settings, entry: usize) -> u32
+    ensures { λ r. ⌜ r ≡ valueOf s entry ⌝ }
+{
+    if entry < ENTRIES { s.values[entry] } else { 0 }
+}
+
+// The settings with another value at an entry, unchanged past the table.
+pub fn with_value(s: Settings, entry: usize, value: u32) -> Settings
+    ensures { λ r. ⌜ r ≡ withValue s entry value ⌝ }
+{
+    if entry < ENTRIES {
+        let mut t = s;
+        t.values[entry] = value;
+        t
+    } else {
+        s
+    }
+}
+
+// A phase brought by whole turns into the range that is kept.
+pub fn turned(value: u32) -> u32
+    ensures { λ r. ⌜ r ≡ turnedOf value ⌝ }
+{
+    let x = value as u64;
+    (PHASE_LEAST + (x + 17999) % TURN) as u32
+}
+
+// The step of FREQ, by its value's whole units before rounding.
+pub fn frequency_step(whole: u64) -> u32
+    ensures { λ r. ⌜ r ≡ frequencyStep whole ⌝ }
+{
+    if whole < 100000 {
+        return 1;
+    }
+    if whole < 1000000 {
+        return 10;
+    }
+    if whole < 10000000 {
+        return 100;
+    }
+    if whole < 100000000 {
+        return 1000;
+    }
+    if whole < 1000000000 {
+        return 10000;
+    }
+    100000
+}
+
+// The frequency in force: the internal one where FMOD is 1, else the external one.
+pub fn in_force(s: Settings, external: u32) -> u32
+    ensures { λ r. ⌜ r ≡ inForce s external ⌝ }
+{
+    let mode = value_of(s, FMOD);
+    if mode == INTERNAL {
+        return value_of(s, FREQ);
+    }
+    external
+}
+
+// The detection frequency: the harmonic times the frequency in force.
+pub fn detection(s: Settings, external: u32) -> u64
+    ensures { λ r. ⌜ r ≡ detectionOf s external ⌝ }
+{
+    let harmonic = value_of(s, HARM) as u64;
+    let frequency = in_force(s, external) as u64;
+    harmonic * frequency
+}
+
+// Whether a detection frequency is at most 102 kHz.
+pub fn within_limit(detection: u64) -> bool
+    ensures { λ r. ⌜ r ≡ withinLimit detection ⌝ }
+{
+    detection <= DETECTION_LIMIT
+}
+
+// Whether a detection frequency is above 200 Hz.
+pub fn above_200(detection: u64) -> bool
+    ensures { λ r. ⌜ r ≡ above200 detection ⌝ }
+{
+    LONG_LIMIT < detection
+}
+
+// Whether a time constant may stand at a detection frequency.
+pub fn time_constant_stands(detection: u64, constant: u32) -> bool
+    ensures { λ r. ⌜ r ≡ timeConstantStands detection constant ⌝ }
+{
+    if constant <= LONGEST_ABOVE {
+        return true;
+    }
+    if above_200(detection) {
+        return false;
+    }
+    true
+}
+
+// What comes of a detection frequency that was old and is new.
+pub fn crossing_of(old: u64, new: u64, constant: u32) -> Crossing
+    ensures { λ r. ⌜ r ≡ crossingOf old new constant ⌝ }
+{
+    let was = above_200(old);
+    let is = above_200(new);
+    if was {
+        if is {
+            return Crossing { constant, bits: 0 };
+        }
+        return Crossing {
+            constant,
+            bits: CROSSED, // downwards
+        };
+    }
+    if is {
+        if LONGEST_ABOVE < constant {
+            return Crossing {
+                constant: LONGEST_ABOVE,
+                bits: CROSSED + SHORTENED,
+            };
+        }
+        return Crossing {
+            constant,
+            bits: CROSSED,
+        };
+    }
+    Crossing { constant, bits: 0 }
+}
+
+// Whether an external frequency is one that is taken.
+pub fn frequency_in_range(frequency: u32) -> bool
+    ensures { λ r. ⌜ r ≡ frequencyInRange frequency ⌝ }
+{
+    if frequency < FREQUENCY_LOW {
+        return false;
+    }
+    frequency <= FREQUENCY_HIGH
+}
+
+// The step of an entry, by its value's whole units before rounding.
+pub fn step_of(entry: usize, whole: u64) -> u32
+    ensures { λ r. ⌜ r ≡ stepOf entry whole ⌝ }
+{
+    if entry == FREQ {
+        return frequency_step(whole);
+    }
+    let row = row_of(entry);
+    row.step
+}
+
+// The range of an entry's argument, for a number of so many whole units.
+pub fn range_of(entry: usize, whole: u64) -> number::Range
+    ensures { λ r. ⌜ r ≡ rangeOf entry whole ⌝ }
+{
+    let row = row_of(entry);
+    let step = step_of(entry, whole);
+    number::Range {
+        bias: row.bias,
+        low: row.low,
+        high: row.high,
+        step,
+        whole: row.decimals == 0,
+    }
+}
+
+// A number taken as an entry's argument, or refusal 2: PHAS is turned once it is rounded.
+pub fn take_value(entry: usize, q: number::Quantity) -> number::Argument
+    ensures { λ r. ⌜ r ≡ valueTaken entry q ⌝ }
+{
+    let range = range_of(entry, q.whole);
+    turned_at(entry, number::take(q, range))
+}
+
+fn turned_at(entry: usize, taken: number::Argument) -> number::Argument
+    ensures { λ r. ⌜ r ≡ turnedAt entry taken ⌝ }
+{
+    let number::Argument::Value(value) = taken else {
+        return number::Argument::Refused;
+    };
+    if entry == PHAS {
+        return number::Argument::Value(turned(value));
+    }
+    number::Argument::Value(value)
+}
+
+// Whether a state may keep a value at an entry: in its range and on its step.
+pub fn keeps_value(entry: usize, value: u32) -> bool
+    ensures { λ r. ⌜ r ≡ keeps entry value ⌝ }
+{
+    let row = row_of(entry);
+    if value < row.least {
+        return false;
+    }
+    if row.most < value {
+        return false;
+    }
+    let step = step_of(entry, value as u64);
+    value % step == 0
+}
+
+// Whether a state may keep every value.
+pub fn keeps_all(s: Settings) -> bool
+    ensures { λ r. ⌜ r ≡ keepsAll s ⌝ }
+{
+    let values = s.values;
+    let mut entry = 0;
+    while entry < ENTRIES {
+        let kept = keeps_value(entry, values[entry]);
+        if kept {} else {
+            return false;
+        }
+        entry += 1;
+    }
+    true
+}
+
+// Whether a state may have the settings and the external frequency: the settings' part of refusal 11.
+pub fn allowed(s: Settings, external: u32) -> bool
+    ensures { λ r. ⌜ r ≡ allowedOf s external ⌝ }
+{
+    let kept = keeps_all(s);
+    if kept {
+        let inside = frequency_in_range(external);
+        if inside {
+            let frequency = detection(s, external);
+            let within = within_limit(frequency);
+            if within {
+                return time_constant_stands(frequency, value_of(s, OFLT));
+            }
+            return false;
+        }
+        return false;
+    }
+    false
+}

@@ -1,0 +1,104 @@
+-- The digits of a number: how many there are, and one at a time. Assumes nothing.
+use Prim.Native.Nat.{ℕ, zero, suc, _+_, _-_, _*_, _/_, _%_, _^_, _≤_, _<_}
+use mathlib.Core.Bool.{Bool, true, false, cond}
+use mathlib.Core.Path.{_≡_, refl, sym, ap}
+use mathlib.Core.List.{List, [], _∷_}
+use native.Mathlib.Omega.{arith}
+use native.Mathlib.Nat.{pow-suc, one-le-pow, div-div-eq-div-mul, div-lt-iff-lt-mul}
+use native.Mathlib.Numerals.{add-one}
+use borrow.Author.Tests.{ltb-true, ltb-false, le-ltb, lt-ltb}
+use lib.Dec.{ltb}
+use lib.Pow.{pow-add}
+use lib.ListN.{length}
+use Rattle.text.specs.Text.{added, padded, placesIn, places}
+use Rattle.text.proofs.Added.{added-join}
+
+pub padded-empty : (n : ℕ) → padded 0 n ≡ []
+unfolding padded
+padded-empty n = refl
+
+pub padded-first : (k n : ℕ) → 0 < k → padded k n ≡ (48 + n / 10 ^ (k - 1) % 10) ∷ padded (k - 1) n
+unfolding padded
+padded-first k n h =
+    let e : k ≡ suc (k - 1) = omega arith in
+    ap (λ m. padded m n) e
+
+-- a digit written, then the ones after it
+pub padded-added : (xs ys : List ℕ) (k n : ℕ) → 0 < k → ys ≡ added xs ((48 + n / 10 ^ (k - 1) % 10) ∷ []) →
+    added xs (padded k n) ≡ added ys (padded (k - 1) n)
+padded-added xs ys k n h e = rw (padded-first k n h, e) (sym (added-join xs _ _))
+
+pub padded-length : (k n : ℕ) → length (padded k n) ≡ k
+unfolding padded
+padded-length zero n = refl
+padded-length (suc k) n = ap suc (padded-length k n)
+
+-- any number of steps from n on gives the same count
+enough : (m k n : ℕ) → n ≤ m → n ≤ k → placesIn m n ≡ placesIn k n
+unfolding placesIn
+enough zero zero n h l = refl
+enough zero (suc k) n h l = rw (lt-ltb n 10 (omega arith))
+enough (suc m) zero n h l = rw (lt-ltb n 10 (omega arith))
+enough (suc m) (suc k) n h l = rw (enough m k (n / 10) (omega arith) (omega arith))
+
+pub places-one : (n : ℕ) → n < 10 → places n ≡ 1
+unfolding placesIn
+places-one zero h = refl
+places-one (suc n) h = rw (lt-ltb (suc n) 10 h)
+
+pub places-more : (n : ℕ) → 10 ≤ n → places n ≡ suc (places (n / 10))
+unfolding placesIn
+places-more zero h = absurd (omega arith)
+places-more (suc n) h =
+    rw (le-ltb (suc n) 10 h) (ap suc (enough n (suc n / 10) (suc n / 10) (omega arith) (omega arith)))
+
+-- the count is the least: n is below that power of ten, and below no smaller one but where n is 0
+module _ (m n : ℕ) where
+  hold-go : (t : Bool) → ltb n 10 ≡ t → n / 10 < 10 ^ placesIn m (n / 10) → n < 10 ^ cond t 1 (suc (placesIn m (n / 10)))
+  hold-go true e h = let l = ltb-true n 10 e in omega arith
+  hold-go false e h = rw pow-suc (omega arith)
+
+  least-go : (t : Bool) (k : ℕ) → ltb n 10 ≡ t → n < 10 ^ suc k → (0 < k → n / 10 < 10 ^ k → placesIn m (n / 10) ≤ k) →
+      cond t 1 (suc (placesIn m (n / 10))) ≤ suc k
+  least-go true k e h f = omega arith
+  least-go false zero e h f = let l = ltb-false n 10 e in absurd (omega arith)
+  least-go false (suc k) e h f =
+      let g = f (omega arith) (omega (arith, pow-suc 10 (suc k))) in
+      omega arith
+
+hold-in : (m n : ℕ) → n ≤ m → n < 10 ^ placesIn m n
+unfolding placesIn
+hold-in zero n h = omega arith
+hold-in (suc m) n h = hold-go m n (ltb n 10) refl (hold-in m (n / 10) (omega arith))
+
+least-in : (m n k : ℕ) → 0 < k → n < 10 ^ k → placesIn m n ≤ k
+unfolding placesIn
+least-in m n zero l h = absurd (omega arith)
+least-in zero n (suc k) l h = omega arith
+least-in (suc m) n (suc k) l h = least-go m n (ltb n 10) k refl h (least-in m (n / 10) k)
+
+pub places-hold : (n : ℕ) → n < 10 ^ places n
+places-hold n = hold-in n n (omega arith)
+
+pub places-some : (n : ℕ) → 0 < places n
+unfolding placesIn
+places-some zero = omega arith
+places-some (suc n) = some-go (ltb (suc n) 10) (placesIn n (suc n / 10))
+  where
+    some-go : (t : Bool) (k : ℕ) → 0 < cond t 1 (suc k)
+    some-go true k = omega arith
+    some-go false k = omega arith
+
+pub places-least : (n k : ℕ) → 0 < k → n < 10 ^ k → places n ≤ k
+places-least n k l h = least-in n n k l h
+
+-- a whole part and its decimals have no more digits than the number, but that the whole part has one at least
+pub places-whole : (k d n : ℕ) → d < k → n < 10 ^ k → places (n / 10 ^ d) + d ≤ k
+places-whole k d n l h =
+    let e : k ≡ (k - d) + d = omega arith in
+    let f : n < 10 ^ (k - d) * 10 ^ d = rw (← pow-add 10 (k - d) d, ← e) h in
+    omega (arith, places-least (n / 10 ^ d) (k - d) (omega arith) (div-lt-iff-lt-mul (one-le-pow d 10 (omega arith)) .1 f))
+
+-- one digit fewer
+pub tenth : (n x i : ℕ) → x ≡ n / 10 ^ i → x / 10 ≡ n / 10 ^ (i + 1)
+tenth n x i e = rw (e, add-one, pow-suc) (div-div-eq-div-mul n (10 ^ i) 10)

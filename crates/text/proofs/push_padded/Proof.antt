@@ -1,0 +1,61 @@
+-- `text::push_padded` meets its contract: the digits left to write, added to the text so far, make what all of them make. Assumes nothing.
+use Prim.Native.Nat.{_≤_}
+use mathlib.Core.Path.{_≡_, refl, sym, _∙_}
+use native.Mathlib.Omega.{arith}
+use lib.ListN.{length}
+use borrow.Author.Needs.{needs}
+use Rattle.text.specs.Text.{textLimit, shown, added, padded}
+use Rattle.text.proofs.Added.{added-none, added-length, shown-length}
+use Rattle.text.proofs.Digits.{padded-empty, padded-added}
+use Rattle.text.proofs.push_padded.Statement.{statement}
+use Rattle.text.proofs.push_padded.Tie as tie
+
+abbrev Inv-loop : tie.InvT-loop
+Inv-loop value width text₀ left₀ text left =
+    (length (shown text) ≤ textLimit) × (added (shown text₀) (padded width value) ≡ added (shown text) (padded left value))
+
+abbrev μ-loop : tie.MeasureT-loop
+μ-loop value width text₀ left₀ text left = left
+
+loop-holds : tie.Need-loop-holds Inv-loop μ-loop
+loop-holds c =
+    let t = c .args .t in
+    (shown-length (t .bytes) (t .len) (search needs), refl)
+
+sub-left : tie.Need-sub-left Inv-loop μ-loop
+sub-left c = omega arith
+
+digit-requires : tie.Need-digit-requires Inv-loop μ-loop
+digit-requires c κs = search needs
+
+push-requires : tie.Need-push-requires Inv-loop μ-loop
+push-requires c κs = search needs
+
+loop-less : tie.Need-loop-less Inv-loop μ-loop
+loop-less c = omega arith
+
+loop-again : tie.Need-loop-again Inv-loop μ-loop
+loop-again c =
+    let v = c .before .before .before .loop in
+    let e = c .push .ensures in
+    (rw e (added-length (shown (v .text)) _), v .inv .1 ∙ padded-added (shown (v .text)) (shown (c .push .result)) (v .left) (c .before .before .before .before .args .value) (omega arith) (e ∙ rw (c .before .digit .ensures)))
+
+returns : tie.Need-returns Inv-loop μ-loop
+returns c =
+    let v = c .before .loop in
+    let e : v .left ≡ 0 = omega arith in
+    sym (v .inv .1 ∙ rw (e, padded-empty) (added-none (shown (v .text)) (v .inv .0)))
+
+pub push-padded-spec : {M : Type 1} → statement M
+push-padded-spec =
+    tie.close
+    (tie.spec
+    Inv-loop
+    μ-loop
+    loop-holds
+    sub-left
+    digit-requires
+    push-requires
+    loop-less
+    loop-again
+    returns)

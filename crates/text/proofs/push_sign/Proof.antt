@@ -1,0 +1,27 @@
+-- `text::push_sign` meets its contract: a minus below zero, else nothing. Assumes nothing.
+use mathlib.Core.Path.{sym, _∙_}
+use borrow.Author.Needs.{needs}
+use borrow.Author.Tests.{lt-ltb, le-ltb}
+use Rattle.text.specs.Text.{shown, sign}
+use Rattle.text.proofs.Added.{added-none, shown-length}
+use Rattle.text.proofs.push_sign.Statement.{statement}
+use Rattle.text.proofs.push_sign.Tie as tie
+
+push-requires : tie.Need-push-requires
+push-requires c κs = search needs
+
+returns : tie.Need-returns
+unfolding sign
+returns c =
+    let a = c .before .before .args in
+    c .push .ensures ∙ rw (lt-ltb (a .value) (a .bias) (c .before .if1 .taken))
+
+returns-2 : tie.Need-returns-2
+unfolding sign
+returns-2 c =
+    let a = c .before .args in
+    let t = a .t in
+    rw (le-ltb (a .value) (a .bias) (c .if1 .left)) (sym (added-none (shown t) (shown-length (t .bytes) (t .len) (search needs))))
+
+pub push-sign-spec : {M : Type 1} → statement M
+push-sign-spec = tie.close (tie.spec push-requires returns returns-2)

@@ -1,0 +1,2 @@
+-- What the replies' texts say.
+pub mod Text

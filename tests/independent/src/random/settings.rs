@@ -1,0 +1,90 @@
+// Random settings: allowed ones, and ones with a single value changed.
+
+use super::generator::Generator;
+use crate::frequency::{FIRST_LONG_TIME_CONSTANT, LEAST, LIMIT, SLOW_LIMIT};
+use crate::protocol::{LEAST_UNITS, MOST_FREQUENCY, MOST_HARMONIC, MOST_UNITS};
+use crate::setting::{Settings, Value, FMOD, FREQ, HARM, OFLT, VALUES};
+
+pub fn settings(generator: &mut Generator) -> Settings {
+    let mut settings = match generator.below(5) {
+        0 => Settings::start(),
+        _ => allowed(generator),
+    };
+    match generator.below(10) {
+        0..=2 => {}
+        3 => settings.external = external(generator),
+        4 => settings.entries[FREQ] = generator.of_any_size(MOST_UNITS),
+        5 => settings.entries[FMOD] = 1 - settings.entries[FMOD],
+        6 => settings.entries[HARM] = generator.of_any_size(MOST_HARMONIC),
+        _ => {
+            let entry = generator.below(VALUES.len());
+            settings.entries[entry] = near(generator, &VALUES[entry]);
+        }
+    }
+    settings
+}
+
+/// A number of units at, near or between the ends of what is kept.
+pub fn near(generator: &mut Generator, value: &Value) -> i64 {
+    match generator.below(12) {
+        0 => value.kept_low - 1,
+        1 => value.kept_low + generator.between(0, 2),
+        2 => value.kept_high - generator.between(0, 2),
+        3 => value.kept_high + 1,
+        4 => generator.between(-12, 12),
+        5 => generator.between(LEAST_UNITS, MOST_UNITS),
+        6 => generator.between(value.kept_low, value.kept_high),
+        _ => kept(generator, value),
+    }
+}
+
+/// A value that a state may hold, of any size.
+fn kept(generator: &mut Generator, value: &Value) -> i64 {
+    let sign = generator.pick(&[-1, 1]);
+    let wanted = (sign * generator.of_any_size(value.kept_high)).clamp(value.kept_low, value.kept_high);
+    let on_step = wanted - wanted % value.argument.step_at(wanted);
+    if value.allows(on_step) {
+        on_step
+    } else {
+        value.start
+    }
+}
+
+fn external(generator: &mut Generator) -> i64 {
+    match generator.below(6) {
+        0 => LEAST + generator.between(-2, 2),
+        1 => LIMIT + generator.between(-2, 2),
+        _ => generator.of_any_size(MOST_FREQUENCY),
+    }
+}
+
+/// Settings that are mostly allowed together, often just at a limit.
+fn allowed(generator: &mut Generator) -> Settings {
+    let mut settings = Settings::start();
+    for (entry, value) in VALUES.iter().enumerate() {
+        settings.entries[entry] = kept(generator, value).max(LEAST_UNITS);
+    }
+    settings.external = generator.of_any_size(LIMIT).max(LEAST);
+    let harmonic = generator.of_any_size(MOST_HARMONIC).max(1);
+    let at_limit = generator.pick(&[LIMIT, SLOW_LIMIT]) / harmonic + generator.between(0, 1);
+    if generator.chance(30) {
+        settings.external = at_limit.clamp(LEAST, LIMIT);
+    }
+    if generator.chance(30) {
+        let value = &VALUES[FREQ];
+        let on_step = at_limit - at_limit % value.argument.step_at(at_limit);
+        settings.entries[FREQ] = on_step.clamp(LEAST, LIMIT);
+    }
+    let most_harmonic = (LIMIT / settings.reference().in_force()).clamp(1, MOST_HARMONIC);
+    settings.entries[HARM] = match generator.below(8) {
+        0 => most_harmonic,
+        1 => (most_harmonic + 1).min(MOST_HARMONIC),
+        2 => generator.between(1, most_harmonic),
+        _ => harmonic.min(most_harmonic),
+    };
+    let is_fast = settings.reference().detection() > SLOW_LIMIT;
+    if is_fast && settings.entries[OFLT] >= FIRST_LONG_TIME_CONSTANT && generator.chance(80) {
+        settings.entries[OFLT] -= FIRST_LONG_TIME_CONSTANT;
+    }
+    settings
+}
