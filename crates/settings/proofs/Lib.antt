@@ -7,3 +7,4 @@ pub mod Start
 pub mod Exact
 pub mod Rounded
 pub mod Kept
+pub mod Stands

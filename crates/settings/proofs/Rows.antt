@@ -73,6 +73,10 @@ pub row-size : (entry : ℕ) → sizes (rowOf entry) ≤ 2147483648
 unfolding table
 row-size entry = leb→le (sizes (rowOf entry)) 2147483648 (row-rule (λ r. leb (sizes r) 2147483648) tt tt entry)
 
+pub row-decimals : (entry : ℕ) → rowOf entry .decimals ≤ 4
+unfolding table
+row-decimals entry = leb→le (rowOf entry .decimals) 4 (row-rule (λ r. leb (r .decimals) 4) tt tt entry)
+
 -- FREQ's step, whatever the tests say
 pub record Step (s : ℕ) : Type 0 where
   pub least : 1 ≤ s

@@ -23,24 +23,24 @@ abbrev pub signed : (decimals end : ℕ) → Row
 signed decimals end =
     record { bias = end; low = 0; high = end + end; least = 0; most = end + end; step = 1; decimals = decimals; start = end }
 
--- "-360.00 to 729.99, 0.01; once rounded, kept in -179.99 to 180.00 by whole turns", start 0
-abbrev pub turn : ℕ
-turn = 36000
-
+-- "-360.00 to 729.99, 0.01", start 0; a state keeps "-179.99 to 180.00"
 abbrev pub phase : Row
 phase =
     record {
-      bias = turn;
-      low = turn - 36000;
-      high = turn + 72999;
-      least = turn - 17999;
-      most = turn + 18000;
+      bias = 36000;
+      low = 36000 - 36000;
+      high = 36000 + 72999;
+      least = 36000 - 17999;
+      most = 36000 + 18000;
       step = 1;
       decimals = 2;
-      start = turn + 0;
+      start = 36000;
     }
 
--- the phase in that range that lies whole turns away
+abbrev pub turn : ℕ
+turn = 36000
+
+-- "once rounded, kept in -179.99 to 180.00 by whole turns"
 unfoldable pub turnedOf : ℕ → ℕ
 turnedOf x = phase .least + (x + (turn - phase .least)) % turn
 
@@ -98,8 +98,20 @@ freq = 2
 abbrev pub harm : ℕ
 harm = 4
 
+abbrev pub slvl : ℕ
+slvl = 5
+
 abbrev pub oflt : ℕ
 oflt = 14
+
+abbrev pub srat : ℕ
+srat = 31
+
+abbrev pub send : ℕ
+send = 32
+
+abbrev pub tstr : ℕ
+tstr = 33
 
 -- past the table: no value is taken
 abbrev pub noRow : Row
