@@ -4,12 +4,11 @@ use mathlib.Core.Path.{_≡_, refl}
 use mathlib.Core.Bool.{Bool, true, false, cond, _&&_}
 use mathlib.Core.List.{List, [], _∷_}
 use native.Mathlib.Omega.{arith}
-use native.Mathlib.Nat.{one-le-pow}
 use lib.ListN.{length}
 use Rattle.number.specs.Number.{isNumber}
 use Rattle.number.specs.Value.{exactOf}
 use Rattle.number.specs.Quantity.{readOf, takenOf}
-use Rattle.number.proofs.Exact.{taken-exact}
+use Rattle.number.proofs.Exact.{taken-exact, under-pos}
 use Rattle.number.specs.declared.Quantity.{Quantity}
 use Rattle.number.specs.declared.Reading.{Reading}
 use Rattle.number.specs.declared.Reading.the-variants.{Number, NotNumber}
@@ -78,10 +77,6 @@ module _ (d e f : ℕ) (k : List ℕ → List ℕ → List ℕ → Parsed) (j : 
     by true = same a b c
     by false = refl
   three-is (a ∷ b ∷ c ∷ g ∷ more) = refl
-
-under-pos : (decimals : ℕ) (s : List ℕ) → 0 < exactOf decimals s .under
-unfolding exactOf
-under-pos decimals s = one-le-pow _ 10 (omega arith)
 
 -- a whole number of 32 bits
 pub whole-is : (low high : ℕ) → high < 4294967295 → (a : List ℕ) → takenOf (wholeRange low high) (kept 0 a) ≡ wholeOf low high a

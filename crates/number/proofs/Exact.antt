@@ -2,12 +2,13 @@
 use Prim.Native.Nat.{ℕ, zero, suc, _+_, _-_, _*_, _/_, _%_, _<_, _≤_}
 use mathlib.Core.Path.{_≡_, refl, sym, _∙_}
 use mathlib.Core.Bool.{Bool, true, false, true≢false, cond, not, _&&_, _||_, and-false}
+use mathlib.Core.List.{List}
 use native.Mathlib.Omega.{arith}
-use native.Mathlib.Nat.{mod-lt, add-zero, div-add-mod', mul-zero, mul-comm, mul-assoc, add-mul, one-mul, mul-le-mul-right, lt-of-mul-lt-mul-right, div-div-eq-div-mul, min-eq-left, min-eq-right}
+use native.Mathlib.Nat.{one-le-pow, mod-lt, add-zero, div-add-mod', mul-zero, mul-comm, mul-assoc, add-mul, one-mul, mul-le-mul-right, lt-of-mul-lt-mul-right, div-div-eq-div-mul, min-eq-left, min-eq-right}
 use lib.Dec.{leb, ltb, eqb}
 use lib.Arith.{mod-mul}
 use borrow.Author.Tests.{lt-leb, leb-true, leb-false, le-ltb, ltb-true, ltb-false, eqb-true, eqb-false}
-use Rattle.number.specs.Value.{Exact, inRange, rounded, isWhole, argumentOf}
+use Rattle.number.specs.Value.{Exact, exactOf, inRange, rounded, isWhole, argumentOf}
 use Rattle.number.specs.Quantity.{cap, quantityOf, fitsRange, roundedTo, placedIn, valueIn, takenOf}
 use Rattle.number.proofs.Rounding.{up-le, down-le}
 use Rattle.number.specs.declared.Range.{Range}
@@ -187,3 +188,8 @@ module _ (v : Exact) (pos : 0 < v .under) where
     by false p =
         let l : cap ≤ v .over / v .under = ltb-false (v .over / v .under) cap p in
         rw (min-eq-left l, in-range r, past r small l)
+
+-- a text's exact value divides by a power of ten, which is not 0
+pub under-pos : (decimals : ℕ) (s : List ℕ) → 0 < exactOf decimals s .under
+unfolding exactOf
+under-pos decimals s = one-le-pow _ 10 (omega arith)

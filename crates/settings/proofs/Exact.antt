@@ -4,11 +4,11 @@ use mathlib.Core.Path.{_≡_, ap}
 use mathlib.Core.Bool.{Bool, true, false, cond}
 use mathlib.Core.List.{List}
 use native.Mathlib.Omega.{arith}
-use native.Mathlib.Nat.{div-lt-iff-lt-mul, one-le-pow}
+use native.Mathlib.Nat.{div-lt-iff-lt-mul}
 use lib.Dec.{ltb, eqb}
 use Rattle.number.specs.Value.{Exact, exactOf, argumentOf}
 use Rattle.number.specs.Quantity.{cap, quantityOf, takenOf}
-use Rattle.number.proofs.Exact.{Small, same-test, taken-exact}
+use Rattle.number.proofs.Exact.{Small, same-test, taken-exact, under-pos}
 use Rattle.settings.specs.Table.{freq, rowOf}
 use Rattle.settings.specs.Frequency.{hertz, stepBy}
 use Rattle.settings.specs.Setting.{stepWith, rangeWith, exactStep, turnedAt, settingOf, stepOf, rangeOf, valueTaken}
@@ -44,10 +44,6 @@ taken : (entry : ℕ) (v : Exact) → 0 < v .under →
 unfolding rangeOf stepOf
 taken entry v pos =
     rw (step-exact v pos) (taken-exact v pos (rangeWith entry (stepWith entry (exactStep v))) (small entry (exactStep v) (step-by _ .most)))
-
-pub under-pos : (decimals : ℕ) (s : List ℕ) → 0 < exactOf decimals s .under
-unfolding exactOf
-under-pos decimals s = one-le-pow _ 10 (omega arith)
 
 -- what the code takes of a number's text is what the text sets
 pub value-exact : (entry : ℕ) (s : List ℕ) → valueTaken entry (quantityOf (exactOf (rowOf entry .decimals) s)) ≡ settingOf entry s

@@ -13,7 +13,7 @@ use Rattle.number.specs.Value.{Exact, exactOf, rounded, argumentOf}
 use Rattle.number.specs.declared.Range.{Range}
 use Rattle.number.specs.declared.Argument.{Argument}
 use Rattle.number.specs.declared.Argument.the-variants.{Value, Refused}
-use Rattle.number.proofs.Exact.{and-first, and-second}
+use Rattle.number.proofs.Exact.{and-first, and-second, under-pos}
 use Rattle.settings.specs.Table.{entries, table, rowOf, phas, freq, turnedOf, valueOf, withValue}
 use Rattle.settings.specs.Frequency.{hertz, stepBy, frequencyStep}
 use Rattle.settings.specs.Setting.{stepWith, rangeWith, exactStep, turnedAt, settingOf, stepOf}
@@ -22,7 +22,6 @@ use Rattle.settings.specs.declared.Settings.{Settings}
 use Rattle.settings.proofs.Rows.{row-rule, row-step}
 use Rattle.settings.proofs.Every.{every-at, every-of}
 use Rattle.settings.proofs.Phase.{turned-is}
-use Rattle.settings.proofs.Exact.{under-pos}
 use Rattle.settings.proofs.Rounded.{Aligned, Inside, Above, above, taken-above, taken-inside}
 
 -- the values of FREQ that one step serves
