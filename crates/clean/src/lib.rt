@@ -9,7 +9,7 @@ pub const LINE: usize = 256;
 
 // The first len bytes are those of the line.
 pub struct Cleaned {
-    pub bytes: [u8; 256],
+    pub bytes: [u8; LINE],
     pub len: usize,
 }
 
@@ -38,7 +38,7 @@ fn capital_of(b: u8) -> u8
 pub fn clean(line: &[u8]) -> Cleaned
     ensures { λ r. ⌜ (shown r ≡ take 256 (cleaned (now (line .entry)))) × (r .len ≤ 256) ⌝ }
 {
-    let mut bytes = [0u8; 256];
+    let mut bytes = [0u8; LINE];
     let mut len = 0;
     let mut i = 0;
     while i < line.len() {
@@ -46,7 +46,7 @@ pub fn clean(line: &[u8]) -> Cleaned
         let skip = is_dropped(b);
         if skip {
             i += 1;
-        } else if len < 256 {
+        } else if len < LINE {
             bytes[len] = capital_of(b);
             len += 1;
             i += 1;

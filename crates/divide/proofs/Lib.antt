@@ -1,2 +1,3 @@
 -- Laws on bytes divided at a separator.
 pub mod Span
+pub mod Quoted

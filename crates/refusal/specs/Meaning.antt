@@ -3,6 +3,8 @@ use Prim.Native.Nat.{ℕ, _^_}
 use Rattle.refusal.specs.declared.Refusal.{Refusal}
 use Rattle.refusal.specs.declared.Refusal.the-variants.{Malformed, OutOfRange, NotAllowed, NoRoom, LongLine, BadEvent, NoReset, LongScriptLine, BadTraces, BadStart, BadState}
 use Rattle.refusal.specs.declared.Meaning.{Meaning}
+use Rattle.refusal.specs.declared.Outcome.{Outcome}
+use Rattle.refusal.specs.declared.Outcome.the-variants.{Done, Refused}
 
 -- "Standard event bits: 0 INP, 2 QRY, 4 EXE, 5 CMD"
 abbrev pub inp : ℕ
@@ -36,3 +38,8 @@ meaningOf LongScriptLine = numbered 8 none
 meaningOf BadTraces = numbered 9 none
 meaningOf BadStart = numbered 10 none
 meaningOf BadState = numbered 11 none
+
+-- "A line's answer is its first refusal .., or 0."
+unfoldable pub numberOf : Outcome → ℕ
+numberOf Done = 0
+numberOf (Refused refusal) = meaningOf refusal .number

@@ -1,6 +1,6 @@
 // The refusals of document 01, with the number and the standard event bit of each.
 ghost use mathlib.Core.Path.{_≡_};
-ghost use Rattle.refusal.specs.Meaning.{meaningOf};
+ghost use Rattle.refusal.specs.Meaning.{meaningOf, numberOf};
 
 // Why a command, a line, an event, a script or a state is not taken.
 pub enum Refusal {
@@ -26,6 +26,12 @@ pub enum Refusal {
     BadStart,
     // A state outside the ranges, steps and limits.
     BadState,
+}
+
+// What is told of a command, a line, an event or a start: done, or refused.
+pub enum Outcome {
+    Done,
+    Refused(Refusal),
 }
 
 // The number that the papers give a refusal, and the standard event bits that it sets.
@@ -78,5 +84,18 @@ pub fn meaning_of(refusal: Refusal) -> Meaning
             number: 11,
             bits: 0,
         },
+    }
+}
+
+// The number that is told: 0 where nothing is refused.
+pub fn number_of(outcome: Outcome) -> u8
+    ensures { λ r. ⌜ r ≡ numberOf outcome ⌝ }
+{
+    match outcome {
+        Outcome::Done => 0,
+        Outcome::Refused(refusal) => {
+            let meaning = meaning_of(refusal);
+            meaning.number
+        }
     }
 }

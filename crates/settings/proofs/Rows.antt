@@ -1,6 +1,6 @@
 -- Laws on the table: a rule of its rows is one test that computes. Assumes nothing.
 use Prim.Native.Nat.{ℕ, zero, suc, _+_, _<_, _≤_}
-use mathlib.Core.Path.{_≡_, refl}
+use mathlib.Core.Path.{_≡_, refl, ap, _∙_}
 use mathlib.Core.Bool.{Bool, true, false, cond, _&&_}
 use mathlib.Core.List.{List, [], _∷_, map}
 use native.Mathlib.Nat.{le-of-suc-le-suc, not-suc-le-zero}
@@ -10,6 +10,7 @@ use lib.ListN.{length, getD}
 use Rattle.settings.specs.Table.{table, rowOf, noRow, startOf, freq}
 use Rattle.settings.specs.Frequency.{hertz, stepBy, frequencyStep}
 use Rattle.settings.specs.Setting.{stepOf}
+use Rattle.settings.specs.Allowed.{keeps, keepsIn}
 use Rattle.settings.specs.declared.Row.{Row}
 
 -- a row as the code keeps it: its cells, the decimals and the start apart
@@ -99,3 +100,19 @@ step-least entry whole = by (eqb entry freq) where
   by : (t : Bool) → 1 ≤ cond t (frequencyStep whole) (rowOf entry .step)
   by true = step-by (λ k. ltb whole k) .least
   by false = row-step entry
+
+-- keeping by an entry's own range and step, and by the cells of the table as the code has them
+pub keeps-in : (entry x : ℕ) → keepsIn entry (rowOf entry .least) (rowOf entry .most) (rowOf entry .step) x ≡ keeps entry x
+unfolding keepsIn keeps stepOf
+keeps-in entry x = refl
+
+pub keeps-cells : (e : List ℕ) (entry x : ℕ) → entry < 34 →
+    keepsIn entry (getD (getD (map cells table) entry e) 3 0) (getD (getD (map cells table) entry e) 4 0) (getD (getD (map cells table) entry e) 5 0) x ≡ keeps entry x
+unfolding table rowOf
+keeps-cells e entry x h =
+    let m = made-at table e noRow entry h in
+    ap (λ r. keepsIn entry (r .least) (r .most) (r .step) x) m ∙ keeps-in entry x
+
+pub step-cell : (e : List ℕ) (entry : ℕ) → entry < 34 → 1 ≤ getD (getD (map cells table) entry e) 5 0
+unfolding table rowOf
+step-cell e entry h = rw (ap (λ r. r .step) (made-at table e noRow entry h)) (row-step entry)

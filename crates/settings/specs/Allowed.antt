@@ -1,15 +1,19 @@
 -- The settings that a state may have: refusal 11, "a state outside the ranges, steps and limits above".
 use Prim.Native.Nat.{ℕ, zero, suc, _%_}
-use mathlib.Core.Bool.{Bool, true, _&&_}
+use mathlib.Core.Bool.{Bool, true, cond, _&&_}
 use lib.Dec.{leb, eqb}
-use Rattle.settings.specs.Table.{entries, oflt, rowOf, valueOf}
-use Rattle.settings.specs.Frequency.{detectionOf, withinLimit, timeConstantStands, frequencyInRange}
+use Rattle.settings.specs.Table.{entries, freq, oflt, rowOf, valueOf}
+use Rattle.settings.specs.Frequency.{frequencyStep, detectionOf, withinLimit, timeConstantStands, frequencyInRange}
 use Rattle.settings.specs.Setting.{stepOf}
 use Rattle.settings.specs.declared.Settings.{Settings}
 
 -- a value in its entry's range and on its step (where the step is not 1 the bias is 0)
 unfoldable pub keeps : ℕ → ℕ → Bool
 keeps entry x = leb (rowOf entry .least) x && (leb x (rowOf entry .most) && eqb (x % stepOf entry x) 0)
+
+-- the same where the row's range and step are told
+unfoldable pub keepsIn : (entry least most step : ℕ) → ℕ → Bool
+keepsIn entry least most step x = leb least x && (leb x most && eqb (x % cond (eqb entry freq) (frequencyStep x) step) 0)
 
 -- the test holds of every number below n
 unfoldable pub every : (ℕ → Bool) → ℕ → Bool

@@ -1,6 +1,8 @@
 -- The settings table of document 01, row by row, and the values that settings have.
 use Prim.Native.Nat.{ℕ, _+_, _-_, _%_}
+use mathlib.Core.Bool.{cond}
 use mathlib.Core.List.{List, [], _∷_, map}
+use lib.Dec.{ltb}
 use lib.ListN.{getD, set}
 use Rattle.settings.specs.declared.Row.{Row}
 use Rattle.settings.specs.declared.Settings.{Settings}
@@ -112,6 +114,10 @@ send = 32
 
 abbrev pub tstr : ℕ
 tstr = 33
+
+-- the entry behind an entry of the table, which holds the second value of a pair: "DDEF i,j,k", "OEXP i,x,j"
+unfoldable pub behind : ℕ → ℕ
+behind entry = cond (ltb entry entries) (entry + 1) entries
 
 -- past the table: no value is taken
 abbrev pub noRow : Row

@@ -1,9 +1,10 @@
 // The settings of a lock-in module, by the table of document 01.
 ghost use mathlib.Core.Path.{_≡_};
-ghost use Rattle.settings.specs.Table.{rowOf, startSettings, turnedOf, valueOf, withValue};
+ghost use Prim.Native.Nat.{_≤_};
+ghost use Rattle.settings.specs.Table.{rowOf, startSettings, turnedOf, behind, valueOf, withValue};
 ghost use Rattle.settings.specs.Frequency.{frequencyStep, inForce, detectionOf, withinLimit, above200, timeConstantStands, crossingOf, frequencyInRange};
 ghost use Rattle.settings.specs.Setting.{stepOf, rangeOf, turnedAt, valueTaken};
-ghost use Rattle.settings.specs.Allowed.{keeps, keepsAll, allowedOf};
+ghost use Rattle.settings.specs.Allowed.{keepsIn, keeps, keepsAll, allowedOf};
 
 mod table;
 
@@ -144,6 +145,16 @@ pub fn with_value(s: Settings, entry: usize, value: u32) -> Settings
     } else {
         s
     }
+}
+
+// The entry behind an entry: the second value of a pair.
+pub fn behind(entry: usize) -> usize
+    ensures { λ r. ⌜ r ≡ behind entry ⌝ }
+{
+    if entry < ENTRIES {
+        return entry + 1;
+    }
+    ENTRIES
 }
 
 // A phase brought by whole turns into the range that is kept.
@@ -309,29 +320,41 @@ fn turned_at(entry: usize, taken: number::Argument) -> number::Argument
     number::Argument::Value(value)
 }
 
+// Whether a state may keep a value of which the range and the step are told: FREQ has a step of its own.
+fn keeps_in(entry: usize, value: u32, least: u32, most: u32, step: u32) -> bool
+    requires { ⌜ 1 ≤ step ⌝ }
+    ensures { λ r. ⌜ r ≡ keepsIn entry least most step value ⌝ }
+{
+    if value < least {
+        return false;
+    }
+    if most < value {
+        return false;
+    }
+    if entry == FREQ {
+        return value % frequency_step(value as u64) == 0;
+    }
+    value % step == 0
+}
+
 // Whether a state may keep a value at an entry: in its range and on its step.
 pub fn keeps_value(entry: usize, value: u32) -> bool
     ensures { λ r. ⌜ r ≡ keeps entry value ⌝ }
 {
     let row = row_of(entry);
-    if value < row.least {
-        return false;
-    }
-    if row.most < value {
-        return false;
-    }
-    let step = step_of(entry, value as u64);
-    value % step == 0
+    keeps_in(entry, value, row.least, row.most, row.step)
 }
 
-// Whether a state may keep every value.
+// Whether a state may keep every value. The table is at hand once for all entries.
 pub fn keeps_all(s: Settings) -> bool
     ensures { λ r. ⌜ r ≡ keepsAll s ⌝ }
 {
     let values = s.values;
+    let table = table::TABLE;
     let mut entry = 0;
     while entry < ENTRIES {
-        let kept = keeps_value(entry, values[entry]);
+        let cells = table[entry];
+        let kept = keeps_in(entry, values[entry], cells[3], cells[4], cells[5]);
         if kept {} else {
             return false;
         }

@@ -2,7 +2,16 @@
 
 /// Two hex digits for each byte.
 pub fn encode(bytes: &[u8]) -> String {
-    bytes.iter().map(|byte| format!("{byte:02x}")).collect()
+    const DIGITS: &[u8; 16] = b"0123456789abcdef";
+    bytes.iter().flat_map(|byte| [byte >> 4, byte & 15]).map(|digit| char::from(DIGITS[usize::from(digit)])).collect()
+}
+
+/// Bytes as a field: `-` where there are none.
+pub fn field(bytes: &[u8]) -> String {
+    match bytes {
+        [] => "-".to_string(),
+        _ => encode(bytes),
+    }
 }
 
 /// The bytes of lower-case hex.
@@ -39,6 +48,7 @@ mod tests {
         let all: Vec<u8> = (0..=255).collect();
         assert_eq!(decode(&encode(&all)), Some(all));
         assert_eq!(encode(&[0, 10, 255]), "000aff");
+        assert_eq!((field(&[]), field(&[7])), ("-".to_string(), "07".to_string()));
         assert_eq!(decode("0"), None);
         assert_eq!(decode("0G"), None);
         assert_eq!(decode("FF"), None);

@@ -1,7 +1,12 @@
 // Random questions from a seed.
 
-mod generator;
+pub mod bench;
+pub mod damaged;
+pub mod generator;
 mod lines;
+mod near;
+pub mod operations;
+pub mod scripts;
 mod settings;
 mod spelling;
 

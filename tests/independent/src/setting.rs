@@ -60,6 +60,27 @@ pub struct Setting {
     pub values: &'static [Value],
 }
 
+impl Setting {
+    /// How far the entries of the channel named lie behind the setting's first one.
+    pub fn channel_offset(&self, arguments: &[i64]) -> usize {
+        match self.channels {
+            0 => 0,
+            _ => (arguments[0] - 1) as usize * self.values.len(),
+        }
+    }
+
+    /// How many values a state keeps for it.
+    pub fn entries(&self) -> usize {
+        self.channels.max(1) as usize * self.values.len()
+    }
+}
+
+/// The setting of a name, with its first entry.
+pub fn find(name: &str) -> Option<(usize, &'static Setting)> {
+    let at = SETTINGS.iter().position(|setting| setting.name == name)?;
+    Some((SETTINGS[..at].iter().map(Setting::entries).sum(), &SETTINGS[at]))
+}
+
 const fn single(name: &'static str, values: &'static [Value]) -> Setting {
     Setting { name, channels: 0, values }
 }
@@ -102,6 +123,11 @@ pub const FMOD: usize = 1;
 pub const FREQ: usize = 2;
 pub const HARM: usize = 4;
 pub const OFLT: usize = 14;
+
+/// The entries that decide how points are stored.
+pub const SRAT: usize = 31;
+pub const SEND: usize = 32;
+pub const TSTR: usize = 33;
 
 /// The values that a state keeps: the table's, channel by channel.
 pub static VALUES: LazyLock<Vec<Value>> = LazyLock::new(|| {
@@ -153,6 +179,10 @@ mod tests {
         assert_eq!(SETTINGS[FREQ].name, "FREQ");
         assert_eq!(SETTINGS[HARM].name, "HARM");
         assert_eq!(SETTINGS[OFLT].name, "OFLT");
+        for (entry, name) in [(0, "PHAS"), (15, "DDEF"), (21, "OEXP"), (SRAT, "SRAT"), (SEND, "SEND"), (TSTR, "TSTR")] {
+            assert_eq!(find(name).map(|(entry, setting)| (entry, setting.name)), Some((entry, name)));
+        }
+        assert!(find("STRT").is_none());
         let names: Vec<String> = SETTINGS
             .iter()
             .flat_map(|setting| {

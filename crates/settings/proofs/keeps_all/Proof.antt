@@ -5,36 +5,51 @@ use mathlib.Core.Bool.{true}
 use native.Mathlib.Omega.{arith}
 use borrow.Author.Needs.{needs}
 use lib.ListN.{getD}
+use Rattle.settings.specs.Table.{table}
 use Rattle.settings.specs.Allowed.{keeps, every, keepsAll}
 use Rattle.settings.proofs.Every.{every-more, every-fails}
+use Rattle.settings.proofs.Rows.{keeps-cells, step-cell}
 use Rattle.settings.proofs.keeps_all.Statement.{statement}
 use Rattle.settings.proofs.keeps_all.Tie as tie
 
 abbrev Inv-loop : tie.InvT-loop
-Inv-loop values entry₀ entry = (entry ≤ 34) × (every (λ e. keeps e (getD values e 0)) entry ≡ true)
+Inv-loop values table entry₀ entry = (entry ≤ 34) × (every (λ e. keeps e (getD values e 0)) entry ≡ true)
 
 abbrev μ-loop : tie.MeasureT-loop
-μ-loop values entry₀ entry = 34 - entry
+μ-loop values table entry₀ entry = 34 - entry
 
 loop-holds : tie.Need-loop-holds Inv-loop μ-loop
 unfolding every
 loop-holds c = (omega arith, refl)
 
-mul-keeps-value : tie.Need-mul-keeps-value Inv-loop μ-loop
-mul-keeps-value c = search needs
+mul-cells : tie.Need-mul-cells Inv-loop μ-loop
+mul-cells c = search needs
 
-array-read-keeps-value : tie.Need-array-read-keeps-value Inv-loop μ-loop
-array-read-keeps-value c = search needs
+array-copy-out-cells : tie.Need-array-copy-out-cells Inv-loop μ-loop
+array-copy-out-cells c = search needs
 
-keeps-value-requires : tie.Need-keeps-value-requires Inv-loop μ-loop
-keeps-value-requires c κs = search needs
+mul-keeps-in : tie.Need-mul-keeps-in Inv-loop μ-loop
+mul-keeps-in c = search needs
+
+array-read-keeps-in : tie.Need-array-read-keeps-in Inv-loop μ-loop
+array-read-keeps-in c = search needs
+
+array-read-keeps-in-2 : tie.Need-array-read-keeps-in-2 Inv-loop μ-loop
+array-read-keeps-in-2 c = search needs
+
+array-read-keeps-in-3 : tie.Need-array-read-keeps-in-3 Inv-loop μ-loop
+array-read-keeps-in-3 c = search needs
+
+array-read-keeps-in-4 : tie.Need-array-read-keeps-in-4 Inv-loop μ-loop
+array-read-keeps-in-4 c = search needs
+
+keeps-in-requires : tie.Need-keeps-in-requires Inv-loop μ-loop
+unfolding table
+keeps-in-requires c κs = step-cell _ (c .before .before .loop .entry) (c .before .loop-test .taken)
 
 returns : tie.Need-returns Inv-loop μ-loop
-unfolding keepsAll
-returns c =
-    sym
-    (every-fails _ 34 (c .before .before .before .loop .entry) (c .before .before .loop-test .taken)
-    (sym (c .before .keeps-value .ensures) ∙ c .if1 .left))
+unfolding keepsAll table
+returns c = sym (every-fails _ 34 (c .before .before .before .before .loop .entry) (c .before .before .before .loop-test .taken) (sym (c .before .keeps-in .ensures ∙ keeps-cells _ (c .before .before .before .before .loop .entry) _ (c .before .before .before .loop-test .taken)) ∙ c .if1 .left))
 
 add-entry : tie.Need-add-entry Inv-loop μ-loop
 add-entry c = omega arith
@@ -43,17 +58,12 @@ loop-less : tie.Need-loop-less Inv-loop μ-loop
 loop-less c = omega arith
 
 loop-again : tie.Need-loop-again Inv-loop μ-loop
-loop-again c = (
-  omega arith,
-  every-more _ (c .before .before .before .loop .entry) (c .before .before .before .loop .inv .1)
-      (sym (c .before .keeps-value .ensures) ∙ c .if1 .taken),
-)
+unfolding table
+loop-again c = (omega arith, every-more _ (c .before .before .before .before .loop .entry) (c .before .before .before .before .loop .inv .1) (sym (c .before .keeps-in .ensures ∙ keeps-cells _ (c .before .before .before .before .loop .entry) _ (c .before .before .before .loop-test .taken)) ∙ c .if1 .taken))
 
 returns-2 : tie.Need-returns-2 Inv-loop μ-loop
 unfolding keepsAll
-returns-2 c =
-    let e : c .before .loop .entry ≡ 34 = omega arith in
-    sym (rw e at (c .before .loop .inv .1))
+returns-2 c = let e : c .before .loop .entry ≡ 34 = omega arith in sym (rw e at (c .before .loop .inv .1))
 
 pub keeps-all-spec : {M : Type 1} → statement M
 keeps-all-spec =
@@ -62,9 +72,14 @@ keeps-all-spec =
     Inv-loop
     μ-loop
     loop-holds
-    mul-keeps-value
-    array-read-keeps-value
-    keeps-value-requires
+    mul-cells
+    array-copy-out-cells
+    mul-keeps-in
+    array-read-keeps-in
+    array-read-keeps-in-2
+    array-read-keeps-in-3
+    array-read-keeps-in-4
+    keeps-in-requires
     returns
     add-entry
     loop-less

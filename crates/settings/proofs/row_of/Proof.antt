@@ -1,9 +1,9 @@
 -- `settings::row_of` meets its contract: the constants compute to the table's. Assumes nothing.
 use mathlib.Core.Path.{sym}
 use lib.ListN.{List·getD-eq-default}
+use borrow.Author.Needs.{needs}
 use Rattle.settings.specs.Table.{table, rowOf, noRow}
 use Rattle.settings.proofs.Rows.{made-at}
-use borrow.Author.Needs.{needs}
 use Rattle.settings.proofs.row_of.Statement.{statement}
 use Rattle.settings.proofs.row_of.Tie as tie
 

@@ -13,6 +13,7 @@ const UNKNOWN_NAMES: &[&str] = &[
 /// Bytes that mean something in a line, or nearly do.
 const BYTES: &[u8] = b"0123456789+-.,;?*Ee \r\n\t\0/:@[`{~AZaz\x7f\x80\xa0\xb0\xc8\xff";
 
+/// A line of at most 256 bytes.
 pub fn line(generator: &mut Generator) -> Vec<u8> {
     let commands = match generator.below(10) {
         0..=4 => 1,
@@ -35,7 +36,7 @@ pub fn line(generator: &mut Generator) -> Vec<u8> {
 }
 
 /// A line that is no run of commands: bytes of any kind, or almost nothing.
-fn odd_line(generator: &mut Generator) -> Vec<u8> {
+pub fn odd_line(generator: &mut Generator) -> Vec<u8> {
     let length = generator.below(12);
     match generator.below(4) {
         0 => (0..length).map(|_| generator.next() as u8).collect(),
@@ -50,7 +51,7 @@ fn odd_line(generator: &mut Generator) -> Vec<u8> {
 }
 
 /// A command, one time in three not quite as it should be.
-fn command(generator: &mut Generator) -> Vec<u8> {
+pub fn command(generator: &mut Generator) -> Vec<u8> {
     if generator.chance(4) {
         return vec![b' '; generator.below(3)];
     }
@@ -74,7 +75,7 @@ fn command(generator: &mut Generator) -> Vec<u8> {
 }
 
 /// The form with a number for each argument.
-fn lawful(generator: &mut Generator, form: &Form) -> Vec<u8> {
+pub fn lawful(generator: &mut Generator, form: &Form) -> Vec<u8> {
     let arguments: Vec<String> = form.arguments.iter().map(|argument| spelling::number(generator, argument)).collect();
     written(form.name, form.is_query, &arguments)
 }
@@ -105,7 +106,7 @@ fn misshapen(generator: &mut Generator, form: &Form) -> Vec<u8> {
 }
 
 /// One change at a random place.
-fn damage(generator: &mut Generator, text: &mut Vec<u8>) {
+pub fn damage(generator: &mut Generator, text: &mut Vec<u8>) {
     if text.is_empty() {
         text.push(generator.pick(BYTES));
         return;
@@ -128,7 +129,7 @@ fn damage(generator: &mut Generator, text: &mut Vec<u8>) {
 }
 
 /// Spaces and CR anywhere.
-fn space_out(generator: &mut Generator, text: &mut Vec<u8>) {
+pub fn space_out(generator: &mut Generator, text: &mut Vec<u8>) {
     for _ in 0..1 + generator.below(4) {
         let at = generator.below(text.len() + 1);
         text.insert(at, generator.pick(b"  \r"));
@@ -136,7 +137,7 @@ fn space_out(generator: &mut Generator, text: &mut Vec<u8>) {
 }
 
 /// All letters small, or each as chance has it.
-fn change_case(generator: &mut Generator, text: &mut [u8]) {
+pub fn change_case(generator: &mut Generator, text: &mut [u8]) {
     let all = generator.chance(50);
     for byte in text {
         if all || generator.chance(50) {

@@ -1,0 +1,3 @@
+-- Laws on replies.
+pub mod Texts
+pub mod Sends

@@ -1,0 +1,19 @@
+-- `answer::place_of` meets its contract: the place of bin 0 and the bin, both small. Assumes nothing.
+use native.Mathlib.Omega.{arith}
+use Rattle.storage.specs.Storage.{oldestOf}
+use borrow.Author.Needs.{needs}
+use Rattle.answer.proofs.place_of.Statement.{statement}
+use Rattle.answer.proofs.place_of.Tie as tie
+
+oldest-requires : tie.Need-oldest-requires
+oldest-requires c κs = search needs
+
+add-result : tie.Need-add-result
+unfolding oldestOf
+add-result c = omega (arith, c .oldest .ensures)
+
+returns : tie.Need-returns
+returns c = search needs
+
+pub place-of-spec : {M : Type 1} → statement M
+place-of-spec = tie.close (tie.spec oldest-requires add-result returns)

@@ -1,0 +1,31 @@
+-- `answer::send_text` meets its contract: the text with its end is sent. Assumes nothing.
+use Rattle.answer.proofs.Sends.{says-ended}
+use borrow.Author.Needs.{needs}
+use Rattle.answer.proofs.send_text.Statement.{statement}
+use Rattle.answer.proofs.send_text.Tie as tie
+
+text-of-requires : tie.Need-text-of-requires
+text-of-requires c κs = search needs
+
+end-of-requires : tie.Need-end-of-requires
+end-of-requires c κs = search needs
+
+push-requires : tie.Need-push-requires
+push-requires c κs = search needs
+
+send-requires : tie.Need-send-requires
+send-requires c κs = search needs
+
+same-length : tie.Need-same-length
+same-length c = search needs
+
+returns : tie.Need-returns
+returns c =
+    let a = c .before .before .before .before .before .before .before .before .before .args in
+    let e = says-ended (a .q) (a .s) (a .waiting) _ _ _ (c .before .before .before .before .before .before .text-of .ensures) (c .before .before .before .before .before .end-of .ensures) (c .before .before .before .before .push .ensures) in
+    rw (← e) (c .before .before .send .ensures)
+
+pub send-text-spec : {M : Type 1} → statement M
+send-text-spec =
+    tie.close
+    (tie.spec text-of-requires end-of-requires push-requires send-requires same-length returns)

@@ -1,0 +1,2 @@
+-- What a query replies.
+pub mod Reply

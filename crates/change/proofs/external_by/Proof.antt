@@ -1,0 +1,19 @@
+-- `change::external_by` meets its contract. Assumes nothing.
+use borrow.Author.Needs.{needs}
+use Rattle.change.specs.Change.{externalBy}
+use Rattle.change.proofs.external_by.Statement.{statement}
+use Rattle.change.proofs.external_by.Tie as tie
+
+is-reset-requires : tie.Need-is-reset-requires
+is-reset-requires c κs = search needs
+
+returns : tie.Need-returns
+unfolding externalBy
+returns c = search needs
+
+returns-2 : tie.Need-returns-2
+unfolding externalBy
+returns-2 c = search needs
+
+pub external-by-spec : {M : Type 1} → statement M
+external-by-spec = tie.close (tie.spec is-reset-requires returns returns-2)

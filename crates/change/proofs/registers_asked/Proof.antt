@@ -1,0 +1,99 @@
+-- `change::registers_asked` meets its contract. Assumes nothing.
+use borrow.Author.Needs.{needs}
+use Rattle.change.specs.Change.{registersAsked}
+use Rattle.change.proofs.registers_asked.Statement.{statement}
+use Rattle.change.proofs.registers_asked.Tie as tie
+
+enum-known-q : tie.Need-enum-known-q
+enum-known-q c = search needs
+
+cleared-requires : tie.Need-cleared-requires
+cleared-requires c κs = search needs
+
+enum-known-q-2 : tie.Need-enum-known-q-2
+enum-known-q-2 c = search needs
+
+bit-cleared-requires : tie.Need-bit-cleared-requires
+bit-cleared-requires c κs = search needs
+
+enum-told : tie.Need-enum-told
+enum-told c = search needs
+
+enum-told-2 : tie.Need-enum-told-2
+enum-told-2 c = search needs
+
+enum-told-3 : tie.Need-enum-told-3
+enum-told-3 c = search needs
+
+enum-told-4 : tie.Need-enum-told-4
+enum-told-4 c = search needs
+
+enum-told-5 : tie.Need-enum-told-5
+enum-told-5 c = search needs
+
+enum-told-6 : tie.Need-enum-told-6
+enum-told-6 c = search needs
+
+enum-told-7 : tie.Need-enum-told-7
+enum-told-7 c = search needs
+
+returns : tie.Need-returns
+unfolding registersAsked
+returns c = rw (c .cleared .ensures, c .before .before .q .given .1)
+
+returns-2 : tie.Need-returns-2
+unfolding registersAsked
+returns-2 c = rw (c .bit-cleared .ensures, c .before .before .q2 .given .1)
+
+returns-3 : tie.Need-returns-3
+unfolding registersAsked
+returns-3 c = rw (c .enum-told .given .1)
+
+returns-4 : tie.Need-returns-4
+unfolding registersAsked
+returns-4 c = rw (c .enum-told2 .given .1)
+
+returns-5 : tie.Need-returns-5
+unfolding registersAsked
+returns-5 c = rw (c .enum-told3 .given .1)
+
+returns-6 : tie.Need-returns-6
+unfolding registersAsked
+returns-6 c = rw (c .enum-told4 .given .1)
+
+returns-7 : tie.Need-returns-7
+unfolding registersAsked
+returns-7 c = rw (c .enum-told5 .given .1)
+
+returns-8 : tie.Need-returns-8
+unfolding registersAsked
+returns-8 c = rw (c .enum-told6 .given .1)
+
+returns-9 : tie.Need-returns-9
+unfolding registersAsked
+returns-9 c = rw (c .enum-told7 .given .1)
+
+pub registers-asked-spec : {M : Type 1} → statement M
+registers-asked-spec =
+    tie.close
+    (tie.spec
+    enum-known-q
+    cleared-requires
+    enum-known-q-2
+    bit-cleared-requires
+    enum-told
+    enum-told-2
+    enum-told-3
+    enum-told-4
+    enum-told-5
+    enum-told-6
+    enum-told-7
+    returns
+    returns-2
+    returns-3
+    returns-4
+    returns-5
+    returns-6
+    returns-7
+    returns-8
+    returns-9)

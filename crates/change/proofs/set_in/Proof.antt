@@ -1,0 +1,54 @@
+-- `change::set_in` meets its contract. Assumes nothing.
+use borrow.Author.Needs.{needs}
+use Rattle.change.specs.Change.{setIn}
+use Rattle.change.proofs.set_in.Statement.{statement}
+use Rattle.change.proofs.set_in.Tie as tie
+
+enum-known-a : tie.Need-enum-known-a
+enum-known-a c = search needs
+
+with-value-requires : tie.Need-with-value-requires
+with-value-requires c κs = search needs
+
+enum-known-a-2 : tie.Need-enum-known-a-2
+enum-known-a-2 c = search needs
+
+pair-in-requires : tie.Need-pair-in-requires
+pair-in-requires c κs = search needs
+
+enum-told : tie.Need-enum-told
+enum-told c = search needs
+
+enum-told-2 : tie.Need-enum-told-2
+enum-told-2 c = search needs
+
+returns : tie.Need-returns
+unfolding setIn
+returns c = rw (c .with-value .ensures, c .before .before .a .given .1)
+
+returns-2 : tie.Need-returns-2
+unfolding setIn
+returns-2 c = rw (c .pair-in .ensures, c .before .before .a2 .given .1)
+
+returns-3 : tie.Need-returns-3
+unfolding setIn
+returns-3 c = rw (c .enum-told .given .1)
+
+returns-4 : tie.Need-returns-4
+unfolding setIn
+returns-4 c = rw (c .enum-told2 .given .1)
+
+pub set-in-spec : {M : Type 1} → statement M
+set-in-spec =
+    tie.close
+    (tie.spec
+    enum-known-a
+    with-value-requires
+    enum-known-a-2
+    pair-in-requires
+    enum-told
+    enum-told-2
+    returns
+    returns-2
+    returns-3
+    returns-4)

@@ -1,0 +1,298 @@
+// What a command needs of the state, and what it changes: refusal 3, the settings, what events change too, the registers and the enables.
+ghost use mathlib.Core.Path.{_≡_};
+ghost use Rattle.change.specs.Allows.{valueAllowed, keepsLimit, setAllowed, queryAllowed, allowsOf};
+ghost use Rattle.change.specs.Change.{withPair, setIn, isReset, restoredBy, settingsAfter, unstored, storageBy, storageAfter, externalBy, externalAfter, movingAfter, registersAsked, registersBy, registersAfter, enablesSet, enablesAfter, changedBy, stateAfter};
+use command::Kind;
+use command::QueryArgument;
+use command::SetArgument;
+use name::Action;
+use settings::Settings;
+use state::Moving;
+use state::State;
+use status::Enables;
+use status::Registers;
+use storage::Sampled;
+use storage::Sampling;
+use storage::Storage;
+
+// Whether the detection frequency stays at most 102 kHz with another value at an entry.
+fn keeps_limit(s: Settings, m: Moving, entry: usize, value: u32) -> bool
+    ensures { λ r. ⌜ r ≡ keepsLimit s m entry value ⌝ }
+{
+    let changed = settings::with_value(s, entry, value);
+    settings::within_limit(settings::detection(changed, m.external))
+}
+
+// Whether a setting's value is allowed.
+fn value_allowed(s: Settings, m: Moving, entry: usize, value: u32) -> bool
+    ensures { λ r. ⌜ r ≡ valueAllowed s m entry value ⌝ }
+{
+    if entry == settings::FREQ {
+        if settings::value_of(s, settings::FMOD) == settings::INTERNAL {
+            return keeps_limit(s, m, entry, value);
+        }
+        return false;
+    }
+    if entry == settings::HARM {
+        return keeps_limit(s, m, entry, value);
+    }
+    if entry == settings::FMOD {
+        return keeps_limit(s, m, entry, value);
+    }
+    if entry == settings::OFLT {
+        return settings::time_constant_stands(settings::detection(s, m.external), value);
+    }
+    if entry == settings::SEND {
+        return storage::is_reset(m.storage);
+    }
+    true
+}
+
+fn set_allowed(s: Settings, m: Moving, a: SetArgument) -> bool
+    ensures { λ r. ⌜ r ≡ setAllowed s m a ⌝ }
+{
+    match a {
+        SetArgument::Value(entry, value) => value_allowed(s, m, entry, value),
+        SetArgument::Pair(_, _, _) => true,
+        SetArgument::Enable(_, _) => true,
+        SetArgument::EnableBit(_, _, _) => true,
+    }
+}
+
+fn query_allowed(m: Moving, q: QueryArgument) -> bool
+    ensures { λ r. ⌜ r ≡ queryAllowed m q ⌝ }
+{
+    match q {
+        QueryArgument::Trace(_, _, bin, count) => storage::holds(m.storage, bin, count),
+        QueryArgument::Value(_) => true,
+        QueryArgument::Pair(_) => true,
+        QueryArgument::Enable(_) => true,
+        QueryArgument::EnableBit(_, _) => true,
+        QueryArgument::Status(_) => true,
+        QueryArgument::StatusBit(_, _) => true,
+        QueryArgument::Identity => true,
+        QueryArgument::Points => true,
+    }
+}
+
+// Whether a command is allowed: refused by 3 where it is not.
+pub fn allows(s: Settings, m: Moving, kind: Kind) -> bool
+    ensures { λ r. ⌜ r ≡ allowsOf s m kind ⌝ }
+{
+    match kind {
+        Kind::Set(a) => set_allowed(s, m, a),
+        Kind::Query(q) => query_allowed(m, q),
+        Kind::Act(_) => true,
+    }
+}
+
+// The settings with two values, the second at the entry behind the first's.
+fn pair_in(s: Settings, entry: usize, first: u32, second: u32) -> Settings
+    ensures { λ r. ⌜ r ≡ withPair s entry first second ⌝ }
+{
+    let one = settings::with_value(s, entry, first);
+    settings::with_value(one, settings::behind(entry), second)
+}
+
+fn set_in(s: Settings, a: SetArgument) -> Settings
+    ensures { λ r. ⌜ r ≡ setIn s a ⌝ }
+{
+    match a {
+        SetArgument::Value(entry, value) => settings::with_value(s, entry, value),
+        SetArgument::Pair(entry, first, second) => pair_in(s, entry, first, second),
+        SetArgument::Enable(_, _) => s,
+        SetArgument::EnableBit(_, _, _) => s,
+    }
+}
+
+fn is_reset(a: Action) -> bool
+    ensures { λ r. ⌜ r ≡ isReset a ⌝ }
+{
+    match a {
+        Action::Reset => true,
+        Action::Clear => false,
+        Action::Start => false,
+        Action::Pause => false,
+        Action::Empty => false,
+        Action::Trigger => false,
+    }
+}
+
+fn restored(s: Settings, a: Action) -> Settings
+    ensures { λ r. ⌜ r ≡ restoredBy a s ⌝ }
+{
+    if is_reset(a) {
+        return Settings::start();
+    }
+    s
+}
+
+// The settings after a command, but for what a crossing of 200 Hz does.
+pub fn settings_after(s: Settings, kind: Kind) -> Settings
+    ensures { λ r. ⌜ r ≡ settingsAfter kind s ⌝ }
+{
+    match kind {
+        Kind::Set(a) => set_in(s, a),
+        Kind::Query(_) => s,
+        Kind::Act(a) => restored(s, a),
+    }
+}
+
+// Storage with nothing stored and no bit set.
+fn unstored(storage: Storage) -> Sampled
+    ensures { λ r. ⌜ r ≡ unstored storage ⌝ }
+{
+    Sampled {
+        storage,
+        stores: false,
+        bits: 0,
+    }
+}
+
+fn storage_by(s: Storage, capacity: u32, by: Sampling, a: Action) -> Sampled
+    ensures { λ r. ⌜ r ≡ storageBy a s capacity by ⌝ }
+{
+    match a {
+        Action::Reset => unstored(storage::emptied()),
+        Action::Clear => unstored(s),
+        Action::Start => unstored(storage::started(s)),
+        Action::Pause => unstored(storage::paused(s)),
+        Action::Empty => unstored(storage::emptied()),
+        Action::Trigger => storage::triggered(s, capacity, by),
+    }
+}
+
+// What a command does to storage.
+pub fn storage_after(s: Settings, m: Moving, capacity: u32, kind: Kind) -> Sampled
+    ensures { λ r. ⌜ r ≡ storageAfter kind s m capacity ⌝ }
+{
+    match kind {
+        Kind::Set(_) => unstored(m.storage),
+        Kind::Query(_) => unstored(m.storage),
+        Kind::Act(a) => storage_by(m.storage, capacity, state::sampling_of(s), a),
+    }
+}
+
+fn external_by(external: u32, a: Action) -> u32
+    ensures { λ r. ⌜ r ≡ externalBy a external ⌝ }
+{
+    if is_reset(a) {
+        return settings::FREQUENCY_START;
+    }
+    external
+}
+
+fn external_after(external: u32, kind: Kind) -> u32
+    ensures { λ r. ⌜ r ≡ externalAfter kind external ⌝ }
+{
+    match kind {
+        Kind::Set(_) => external,
+        Kind::Query(_) => external,
+        Kind::Act(a) => external_by(external, a),
+    }
+}
+
+// What a command does to the parts that events change too.
+pub fn moving_after(s: Settings, m: Moving, capacity: u32, kind: Kind) -> Moving
+    ensures { λ r. ⌜ r ≡ movingAfter kind s m capacity ⌝ }
+{
+    let p = storage_after(s, m, capacity, kind);
+    let storage = p.storage;
+    Moving {
+        external: external_after(m.external, kind),
+        storage,
+    }
+}
+
+fn registers_asked(r: Registers, q: QueryArgument) -> Registers
+    ensures { λ t. ⌜ t ≡ registersAsked q r ⌝ }
+{
+    match q {
+        QueryArgument::Status(which) => status::cleared(r, which),
+        QueryArgument::StatusBit(which, bit) => status::bit_cleared(r, which, bit),
+        QueryArgument::Value(_) => r,
+        QueryArgument::Pair(_) => r,
+        QueryArgument::Enable(_) => r,
+        QueryArgument::EnableBit(_, _) => r,
+        QueryArgument::Identity => r,
+        QueryArgument::Points => r,
+        QueryArgument::Trace(_, _, _, _) => r,
+    }
+}
+
+fn registers_by(r: Registers, bits: u8, a: Action) -> Registers
+    ensures { λ t. ⌜ t ≡ registersBy a bits r ⌝ }
+{
+    match a {
+        Action::Clear => status::all_cleared(),
+        Action::Trigger => status::with_lia(r, bits),
+        Action::Reset => r,
+        Action::Start => r,
+        Action::Pause => r,
+        Action::Empty => r,
+    }
+}
+
+// The event registers after a command of which storage sets these LIA bits.
+fn registers_after(r: Registers, bits: u8, kind: Kind) -> Registers
+    ensures { λ t. ⌜ t ≡ registersAfter kind bits r ⌝ }
+{
+    match kind {
+        Kind::Set(_) => r,
+        Kind::Query(q) => registers_asked(r, q),
+        Kind::Act(a) => registers_by(r, bits, a),
+    }
+}
+
+fn enables_set(e: Enables, a: SetArgument) -> Enables
+    ensures { λ r. ⌜ r ≡ enablesSet a e ⌝ }
+{
+    match a {
+        SetArgument::Enable(which, value) => status::with_enable(e, which, value),
+        SetArgument::EnableBit(which, bit, value) => {
+            status::with_enable_bit(e, which, bit, value)
+        }
+        SetArgument::Value(_, _) => e,
+        SetArgument::Pair(_, _, _) => e,
+    }
+}
+
+fn enables_after(e: Enables, kind: Kind) -> Enables
+    ensures { λ r. ⌜ r ≡ enablesAfter kind e ⌝ }
+{
+    match kind {
+        Kind::Set(a) => enables_set(e, a),
+        Kind::Query(_) => e,
+        Kind::Act(_) => e,
+    }
+}
+
+// The state after a command, but for what a crossing of 200 Hz does.
+fn changed(s: State, kind: Kind) -> State
+    ensures { λ r. ⌜ r ≡ changedBy kind s ⌝ }
+{
+    let moving = s.moving;
+    let latest = s.latest;
+    let unit = s.unit;
+    let p = storage_after(s.settings, moving, unit.capacity, kind);
+    State {
+        settings: settings_after(s.settings, kind),
+        moving: moving_after(s.settings, moving, unit.capacity, kind),
+        registers: registers_after(s.registers, p.bits, kind),
+        enables: enables_after(s.enables, kind),
+        latest,
+        unit,
+    }
+}
+
+// The state after a command that is not refused.
+pub fn state_after(s: State, kind: Kind) -> State
+    ensures { λ r. ⌜ r ≡ stateAfter kind s ⌝ }
+{
+    let next = changed(s, kind);
+    match kind {
+        Kind::Set(_) => state::crossed(next, state::detection_now(s)),
+        Kind::Query(_) => next,
+        Kind::Act(_) => next,
+    }
+}

@@ -1,0 +1,34 @@
+-- A command does nothing, is refused by 1 to 4, or is one that may be done and is. Assumes nothing.
+use Prim.Native.Nat.{ℕ, _≤_}
+use native.Mathlib.Omega.{arith}
+use mathlib.Core.Path.{_≡_, refl}
+use mathlib.Core.Bool.{Bool, true, false, cond}
+use mathlib.Core.List.{List}
+use Rattle.refusal.specs.Meaning.{meaningOf}
+use Rattle.refusal.specs.declared.Refusal.{Refusal}
+use Rattle.refusal.specs.declared.Refusal.the-variants.{NotAllowed, NoRoom}
+use Rattle.command.specs.declared.Kind.{Kind}
+use Rattle.command.specs.declared.Parsed.{Parsed}
+use Rattle.command.specs.declared.Parsed.the-variants.{Empty, Taken, Refused}
+use Rattle.state.specs.declared.State.{State}
+use Rattle.change.specs.Allows.{allowsOf}
+use Rattle.reply.specs.Reply.{fitsIn}
+use Rattle.answer.specs.Reply.{replyOf}
+use Rattle.line.specs.Perform.{Effect, refusedBy, nothing, doneBy, performed, commandOf}
+use Rattle.demands.proofs.Sane.{Sane, SaneParsed}
+
+module _ (room : ℕ) (waiting : Bool) (s : State) (one two : List ℕ) (P : Effect → Type 0)
+    (none : P (nothing s one two))
+    (refused : (r : Refusal) → meaningOf r .number ≤ 4 → P (refusedBy r s one two))
+    (done : (kind : Kind) → Sane kind → allowsOf (s .settings) (s .moving) kind ≡ true → P (doneBy kind (replyOf kind s waiting one two) s one two))
+  where
+    pub command-by : (p : Parsed) → SaneParsed p → P (commandOf room waiting p s one two)
+    unfolding commandOf performed
+    command-by Empty k = none
+    command-by (Refused r) k = refused r (omega arith)
+    command-by (Taken c) k = by (allowsOf (s .settings) (s .moving) (c .kind)) (fitsIn (replyOf (c .kind) s waiting one two) room) refl where
+      by : (a f : Bool) → allowsOf (s .settings) (s .moving) (c .kind) ≡ a
+          → P (cond a (cond f (doneBy (c .kind) (replyOf (c .kind) s waiting one two) s one two) (refusedBy NoRoom s one two)) (refusedBy NotAllowed s one two))
+      by true true p = done (c .kind) k p
+      by true false p = refused NoRoom (omega arith)
+      by false f p = refused NotAllowed (omega arith)

@@ -1,0 +1,184 @@
+-- A setting's query and its reply sent back are taken, each as one command. Assumes nothing.
+use Prim.Native.Nat.{ℕ, _+_, _-_, _*_, _≤_}
+use mathlib.Core.Path.{_≡_, refl, sym, ap, _∙_}
+use mathlib.Core.Bool.{true, cond}
+use mathlib.Core.List.{List, [], _∷_, _++_}
+use native.Mathlib.Omega.{arith}
+use native.Mathlib.Nat.{mod-one}
+use lib.ListN.{length, drop, length-append}
+use borrow.Author.Tests.{le-ltb}
+use Rattle.divide.specs.Divide.{parts}
+use Rattle.number.specs.Number.{isNumber, begins}
+use Rattle.number.specs.Quantity.{takenOf}
+use Rattle.number.specs.declared.Argument.the-variants.{Value}
+use Rattle.text.specs.Text.{plain, sign, distance, signedText}
+use Rattle.text.proofs.Value.{fixed-plain}
+use Rattle.text.proofs.Length.{plain-length, signed-length}
+use Rattle.text.proofs.Again.{read-again}
+use Rattle.name.specs.Names.{meaningOf}
+use Rattle.name.specs.declared.Meaning.{Meaning}
+use Rattle.name.specs.declared.Meaning.the-variants.{Setting, Channel, ChannelPair}
+use Rattle.settings.specs.Table.{entries, rowOf}
+use Rattle.settings.specs.Setting.{settingOf}
+use Rattle.settings.specs.Allowed.{keeps}
+use Rattle.settings.proofs.Rows.{row-size, row-decimals}
+use Rattle.command.specs.Arguments.{comma, arguments}
+use Rattle.command.specs.Parsed.{parsedOf, taken, wholeRange, wholeOf, one, two, three, alone, setWith, queryWith, setSetting, setChannel, setChannelPair, queryChannel, queryChannelPair}
+use Rattle.command.proofs.Exact.{whole-is}
+use Rattle.command.specs.declared.SetArgument.the-variants as set
+use Rattle.command.specs.declared.QueryArgument.the-variants as query
+use Rattle.command.specs.declared.Kind.{Kind}
+use Rattle.command.specs.declared.Kind.the-variants.{Set, Query}
+use Rattle.demands.specs.Written.{written}
+use Rattle.demands.specs.Demand2.{Says}
+use Rattle.demands.proofs.Again.{whole, taken-whole, read-as, kept-size, written-again}
+use Rattle.demands.proofs.Bytes.{all, inNumber, inArguments, inCommand, all-append, in-arguments, in-command, parts-free, parts-joined, begins-other, cleaned-same, arguments-some, plain-bytes, plain-some, signed-bytes, signed-some}
+use Rattle.demands.proofs.Meanings.{Name, Alike, alike-written, alike-keeps}
+
+-- a name of four bytes, and what follows it
+parsed-name : (name rest : List ℕ) → length name ≡ 4 →
+    parsedOf (name ++ rest) ≡ cond (begins 63 rest) (queryWith (meaningOf name) (arguments (drop 1 rest))) (setWith (meaningOf name) (arguments rest))
+unfolding parsedOf
+parsed-name [] rest h = absurd (omega arith)
+parsed-name (a ∷ []) rest h = absurd (omega arith)
+parsed-name (a ∷ b ∷ []) rest h = absurd (omega arith)
+parsed-name (a ∷ b ∷ c ∷ []) rest h = absurd (omega arith)
+parsed-name (a ∷ b ∷ c ∷ d ∷ []) rest h = rw (le-ltb (length (a ∷ b ∷ c ∷ d ∷ rest)) 4 (omega arith))
+parsed-name (a ∷ b ∷ c ∷ d ∷ e ∷ name) rest h = absurd (omega arith)
+
+-- a command of such a name, then "?", or other bytes of arguments
+module _ (name : List ℕ) (n : Name name) (m : Meaning) (means : meaningOf name ≡ m) (kind : Kind) where
+  says : (text : List ℕ) → length text ≤ 252 → all inCommand text ≡ true → parsedOf (name ++ text) ≡ taken kind → Says (name ++ text) kind
+  says text l b e =
+      let c = all-append inCommand name text (n .bytes) b in
+      record { short = rw length-append (omega (arith, n .four)); kept = cleaned-same (name ++ text) c; single = parts-free inCommand 59 refl (name ++ text) c; read = e }
+
+  query-says : (args : List ℕ) → length args ≤ 2 → all inArguments args ≡ true → queryWith m (arguments args) ≡ taken kind → Says (name ++ (63 ∷ args)) kind
+  unfolding begins
+  query-says args l b e =
+      says (63 ∷ args) (omega arith) (in-command args b) (parsed-name name (63 ∷ args) (n .four) ∙ rw means e)
+
+  set-says : (args : List ℕ) → length args ≤ 252 → all inArguments args ≡ true → setWith m (arguments args) ≡ taken kind → Says (name ++ args) kind
+  set-says args l b e =
+      says args l (in-command args b) (parsed-name name args (n .four) ∙ rw (begins-other inArguments 63 refl args b, means) e)
+
+-- a channel number is a number, and is taken as itself
+plain-signed : (i : ℕ) → plain i ≡ signedText 0 0 i
+unfolding signedText sign
+plain-signed i =
+    let e : distance 0 i ≡ i = omega arith in
+    rw (le-ltb i 0 (omega arith), fixed-plain 0 (distance 0 i) refl, e)
+
+record Channels (channels i : ℕ) : Type 0 where
+  short : length (plain i) ≤ 2
+  number : isNumber (plain i) ≡ true
+  value : wholeOf 1 channels (plain i) ≡ Value i
+
+channel-again : (channels i : ℕ) → 1 ≤ i → i ≤ channels → channels ≤ entries → Channels channels i
+channel-again channels i some most few =
+    let r = read-as 0 (plain i) (whole 0 i) (rw (plain-signed i) (read-again 0 0 i (omega arith) (omega arith) (omega arith))) in
+    record {
+      short = plain-length 2 i (omega arith) (omega arith);
+      number = r .number;
+      value =
+          sym (whole-is 1 channels (omega arith) (plain i)) ∙ ap (takenOf (wholeRange 1 channels)) (r .kept)
+          ∙ taken-whole (wholeRange 1 channels) i some most (omega arith) (omega arith) (omega arith) (mod-one (distance 0 i));
+    }
+
+-- what is written at an entry is taken alike at an entry with such a row
+record Fits (e f v : ℕ) : Type 0 where
+  number : isNumber (written e v) ≡ true
+  value : settingOf f (written e v) ≡ Value v
+
+fits-alike : (e f v : ℕ) → Alike e f → keeps e v ≡ true → Fits e f v
+fits-alike e f v a h =
+    let w = written-again f v (rw (alike-keeps a v) at h) in
+    let z = alike-written a v in
+    record { number = rw z (w .number); value = rw z (w .value) }
+
+written-bytes : (entry v : ℕ) → all inNumber (written entry v) ≡ true
+written-bytes entry v = signed-bytes (rowOf entry .decimals) (rowOf entry .bias) v
+
+written-short : (entry v : ℕ) → keeps entry v ≡ true → length (written entry v) ≤ 12
+written-short entry v h =
+    let size = row-size entry in
+    let kept = kept-size entry v h in
+    let few = row-decimals entry in
+    signed-length 10 (rowOf entry .decimals) (rowOf entry .bias) v (omega arith) (omega arith)
+
+-- several arguments, divided by ","
+text-one : (x : List ℕ) → 1 ≤ length x → all inNumber x ≡ true → arguments x ≡ x ∷ []
+text-one x h b = arguments-some x h ∙ parts-free inNumber comma refl x b
+
+text-two : (x y : List ℕ) → all inNumber x ≡ true → all inNumber y ≡ true → parts comma (x ++ comma ∷ y) ≡ x ∷ y ∷ []
+text-two x y b c = parts-joined inNumber comma refl x y b ∙ ap (λ l. x ∷ l) (parts-free inNumber comma refl y c)
+
+joined-some : (x y : List ℕ) → 1 ≤ length (x ++ comma ∷ y)
+joined-some x y = rw length-append (omega arith)
+
+joined-bytes : (x y : List ℕ) → all inNumber x ≡ true → all inArguments y ≡ true → all inArguments (x ++ comma ∷ y) ≡ true
+joined-bytes x y b c = all-append inArguments x (comma ∷ y) (in-arguments x b) c
+
+module _ (name : List ℕ) (n : Name name) where
+  module _ (entry : ℕ) (means : meaningOf name ≡ Setting entry) where
+    pub one-asked : Says (name ++ (63 ∷ [])) (Query (query.Value entry))
+    unfolding queryWith alone arguments
+    one-asked = query-says name n (Setting entry) means (Query (query.Value entry)) [] (omega arith) refl refl
+
+    pub one-sent : (v : ℕ) → keeps entry v ≡ true → Says (name ++ written entry v) (Set (set.Value entry v))
+    unfolding setWith setSetting one
+    one-sent v h =
+        let x = written entry v in
+        let w = written-again entry v h in
+        set-says name n (Setting entry) means (Set (set.Value entry v)) x (omega (arith, written-short entry v h)) (in-arguments x (written-bytes entry v))
+        (rw (text-one x (signed-some _ _ v) (written-bytes entry v), w .number, w .value))
+
+  module _ (base channels i : ℕ) (some : 1 ≤ i) (most : i ≤ channels) (few : channels ≤ entries) where
+    module _ (means : meaningOf name ≡ Channel base channels) where
+      pub channel-asked : Says (name ++ (63 ∷ plain i)) (Query (query.Value (base + (i - 1))))
+      unfolding queryWith queryChannel one
+      channel-asked =
+          let c = channel-again channels i some most few in
+          query-says name n (Channel base channels) means (Query (query.Value (base + (i - 1)))) (plain i) (c .short) (in-arguments (plain i) (plain-bytes i))
+          (rw (text-one (plain i) (plain-some i) (plain-bytes i), c .number, c .value))
+
+      pub channel-sent : (v : ℕ) → Alike (base + (i - 1)) base → keeps (base + (i - 1)) v ≡ true →
+          Says (name ++ (plain i ++ comma ∷ written (base + (i - 1)) v)) (Set (set.Value (base + (i - 1)) v))
+      unfolding setWith setChannel two
+      channel-sent v a h =
+          let e = base + (i - 1) in
+          let x = written e v in
+          let c = channel-again channels i some most few in
+          let w = fits-alike e base v a h in
+          set-says name n (Channel base channels) means (Set (set.Value e v)) (plain i ++ comma ∷ x)
+          (rw length-append (omega (arith, c .short, written-short e v h)))
+          (joined-bytes (plain i) x (plain-bytes i) (in-arguments x (written-bytes e v)))
+          (rw (arguments-some (plain i ++ comma ∷ x) (joined-some (plain i) x), text-two (plain i) x (plain-bytes i) (written-bytes e v), c .number, w .number, c .value, w .value))
+
+    module _ (means : meaningOf name ≡ ChannelPair base channels) where
+      pub pair-asked : Says (name ++ (63 ∷ plain i)) (Query (query.Pair (base + 2 * (i - 1))))
+      unfolding queryWith queryChannelPair one
+      pair-asked =
+          let c = channel-again channels i some most few in
+          query-says name n (ChannelPair base channels) means (Query (query.Pair (base + 2 * (i - 1)))) (plain i) (c .short) (in-arguments (plain i) (plain-bytes i))
+          (rw (text-one (plain i) (plain-some i) (plain-bytes i), c .number, c .value))
+
+      pub pair-sent : (v w : ℕ) → Alike (base + 2 * (i - 1)) base → Alike (base + 2 * (i - 1) + 1) (base + 1) →
+          keeps (base + 2 * (i - 1)) v ≡ true → keeps (base + 2 * (i - 1) + 1) w ≡ true →
+          Says (name ++ (plain i ++ comma ∷ (written (base + 2 * (i - 1)) v ++ comma ∷ written (base + 2 * (i - 1) + 1) w))) (Set (set.Pair (base + 2 * (i - 1)) v w))
+      unfolding setWith setChannelPair three
+      pair-sent v w a b h k =
+          let e = base + 2 * (i - 1) in
+          let x = written e v in
+          let y = written (e + 1) w in
+          let rest = x ++ comma ∷ y in
+          let c = channel-again channels i some most few in
+          let p = fits-alike e base v a h in
+          let q = fits-alike (e + 1) (base + 1) w b k in
+          let m : arguments (plain i ++ comma ∷ rest) ≡ plain i ∷ x ∷ y ∷ [] =
+          arguments-some (plain i ++ comma ∷ rest) (joined-some (plain i) rest) ∙ parts-joined inNumber comma refl (plain i) rest (plain-bytes i)
+          ∙ ap (λ l. plain i ∷ l) (text-two x y (written-bytes e v) (written-bytes (e + 1) w)) in
+          set-says name n (ChannelPair base channels) means (Set (set.Pair e v w)) (plain i ++ comma ∷ rest)
+          (rw (length-append, length-append) (omega (arith, c .short, written-short e v h, written-short (e + 1) w k)))
+          (joined-bytes (plain i) rest (plain-bytes i) (joined-bytes x y (written-bytes e v) (in-arguments y (written-bytes (e + 1) w))))
+          (rw (m, c .number, p .number, q .number, c .value, p .value, q .value))

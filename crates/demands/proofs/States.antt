@@ -1,0 +1,111 @@
+-- Commands, lines and events lead from allowed states to allowed ones. Assumes nothing.
+use Prim.Native.Nat.{ℕ, _-_}
+use mathlib.Core.Path.{_≡_, refl, _∙_}
+use mathlib.Core.Bool.{Bool, true, false, cond}
+use mathlib.Core.List.{List, [], _∷_}
+use lib.ListN.{length}
+use Rattle.command.specs.Parsed.{parsedOf}
+use Rattle.command.specs.declared.Kind.{Kind}
+use Rattle.command.specs.declared.Kind.the-variants.{Set, Query, Act}
+use Rattle.point.specs.Point.{isLegal}
+use Rattle.status.proofs.Kept.{start-keeps}
+use Rattle.status.specs.Status.{startRegisters, startEnables}
+use Rattle.state.specs.State.{startState, crossedFrom, markedBy}
+use Rattle.state.specs.Allowed.{keepsLatest, keepsUnit, allowedState}
+use Rattle.state.specs.declared.Unit.{Unit}
+use Rattle.state.specs.declared.State.{State}
+use Rattle.change.specs.Change.{changedBy, stateAfter}
+use Rattle.line.specs.Perform.{Effect, sampledBy, doneBy, commandOf}
+use Rattle.line.specs.Line.{Line, waits, afterOf, stepOf, runAll, startLine, textsOf, lineOf}
+use Rattle.event.proofs.Stays.{event-stays, event-unit, event-first, event-second, stored-length}
+use Rattle.demands.specs.Allowed.{Stays, StatesStay}
+use Rattle.demands.proofs.Sane.{parsed-sane}
+use Rattle.demands.proofs.Change.{fresh-allowed, after-stays, marked-stays}
+use Rattle.demands.proofs.Command.{command-by}
+
+start-latest : keepsLatest (record { one = 0; two = 0 }) ≡ true
+unfolding keepsLatest isLegal
+start-latest = refl
+
+pub start-allowed : (u : Unit) → keepsUnit u ≡ true → allowedState (startState u) ≡ true
+unfolding startState
+start-allowed u k = fresh-allowed startRegisters startEnables (record { one = 0; two = 0 }) u start-keeps start-latest k
+
+-- ---- commands
+
+after-unit : (kind : Kind) (s : State) → stateAfter kind s .unit ≡ s .unit
+unfolding stateAfter changedBy crossedFrom
+after-unit (Set a) s = refl
+after-unit (Query q) s = refl
+after-unit (Act a) s = refl
+
+command-stays : (room : ℕ) (waiting : Bool) (text : List ℕ) (s : State) (one two : List ℕ) →
+    let e = commandOf room waiting (parsedOf text) s one two in
+    Stays s (e .state) one two (e .one) (e .two)
+unfolding doneBy markedBy
+command-stays room waiting text s one two =
+    command-by room waiting s one two (λ (e : Effect). Stays s (e .state) one two (e .one) (e .two))
+    (record { allowed = λ h. h; unit = refl; first-length = refl; second-length = refl })
+    (λ r n. record { allowed = λ h. marked-stays s h r; unit = refl; first-length = refl; second-length = refl })
+    (λ kind k p.
+    record {
+      allowed = λ h. after-stays s h kind k p;
+      unit = after-unit kind s;
+      first-length = stored-length (sampledBy kind s) s (s .latest .one) one;
+      second-length = stored-length (sampledBy kind s) s (s .latest .two) two;
+    })
+    (parsedOf text) (parsed-sane text)
+
+-- ---- lines
+
+both-stay : (a b c : State) (one two one′ two′ one″ two″ : List ℕ) → Stays a b one two one′ two′ → Stays b c one′ two′ one″ two″ → Stays a c one two one″ two″
+both-stay a b c one two one′ two′ one″ two″ p q =
+    record {
+      allowed = λ h. q .allowed (p .allowed h);
+      unit = q .unit ∙ p .unit;
+      first-length = q .first-length ∙ p .first-length;
+      second-length = q .second-length ∙ p .second-length;
+    }
+
+step-stays : (room : ℕ) (text : List ℕ) (l : Line) →
+    let n = stepOf room text l in
+    Stays (l .state) (n .state) (l .one) (l .two) (n .one) (n .two)
+unfolding stepOf afterOf
+step-stays room text l = command-stays (room - length (l .out)) (waits (l .out)) text (l .state) (l .one) (l .two)
+
+run-stays : (room : ℕ) (texts : List (List ℕ)) (l : Line) →
+    let n = runAll room texts l in
+    Stays (l .state) (n .state) (l .one) (l .two) (n .one) (n .two)
+unfolding runAll
+run-stays room [] l = record { allowed = λ h. h; unit = refl; first-length = refl; second-length = refl }
+run-stays room (text ∷ more) l =
+    by (stepOf room text l .dropped)
+    (both-stay (l .state) (next .state) (last .state) (l .one) (l .two) (next .one) (next .two) (last .one) (last .two) (step-stays room text l) (run-stays room more next))
+  where
+    next : Line
+    next = stepOf room text l
+
+    last : Line
+    last = runAll room more next
+
+    by : (t : Bool) → Stays (l .state) (last .state) (l .one) (l .two) (last .one) (last .two) →
+        let n = cond t next last in
+        Stays (l .state) (n .state) (l .one) (l .two) (n .one) (n .two)
+    by true p = step-stays room text l
+    by false p = p
+
+pub states-stay : StatesStay
+unfolding lineOf
+states-stay =
+    record {
+      start = start-allowed;
+      command = command-stays;
+      line = λ room bytes s one two. run-stays room (textsOf bytes) (startLine s one two);
+      event = λ e s one two.
+          record {
+            allowed = event-stays e s one two;
+            unit = event-unit e s one two;
+            first-length = event-first e s one two;
+            second-length = event-second e s one two;
+          };
+    }

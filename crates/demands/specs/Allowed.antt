@@ -1,0 +1,72 @@
+-- Allowed states stay allowed, so that refusal 11 never meets a state that we made: document 01, refusal 11, and refusal 9 for the traces.
+use Prim.Native.Nat.{ℕ}
+use mathlib.Core.Bool.{Bool, true}
+use mathlib.Core.Path.{_≡_}
+use mathlib.Core.List.{List}
+use lib.ListN.{length}
+use Rattle.refusal.specs.declared.Outcome.the-variants.{Done}
+use Rattle.command.specs.Parsed.{parsedOf}
+use Rattle.state.specs.State.{startState}
+use Rattle.state.specs.Allowed.{keepsUnit, allowedState}
+use Rattle.state.specs.declared.Unit.{Unit}
+use Rattle.state.specs.declared.State.{State}
+use Rattle.line.specs.Perform.{commandOf}
+use Rattle.line.specs.Line.{lineOf}
+use Rattle.event.specs.Event.{eventOf}
+use Rattle.event.specs.declared.Event.{Event}
+use Rattle.queue.specs.Queue.{lineLimit}
+use Rattle.lockin.specs.Start.{startOf}
+use Rattle.lockin.specs.Calls.{allowedModule, guardOf, lineCall, byteCall, eventCall}
+use Rattle.lockin.specs.declared.Module.{Module}
+
+-- from a state and its traces to others: an allowed state stays allowed, what is fixed at start stays, and each trace keeps its length
+pub record Stays (before after : State) (one two first second : List ℕ) : Type 0 where
+  pub allowed : allowedState before ≡ true → allowedState after ≡ true
+  pub unit : after .unit ≡ before .unit
+  pub first-length : length first ≡ length one
+  pub second-length : length second ≡ length two
+
+-- a fresh state is allowed, and every command, every line and every event leads from an allowed state to an allowed one
+pub record StatesStay : Type 0 where
+  pub start : (u : Unit) → keepsUnit u ≡ true → allowedState (startState u) ≡ true
+  pub command : (room : ℕ) (waiting : Bool) (text : List ℕ) (s : State) (one two : List ℕ) →
+      let e = commandOf room waiting (parsedOf text) s one two in
+      Stays s (e .state) one two (e .one) (e .two)
+  pub line : (room : ℕ) (bytes : List ℕ) (s : State) (one two : List ℕ) →
+      let l = lineOf room bytes s one two in
+      Stays s (l .state) one two (l .one) (l .two)
+  pub event : (event : Event) (s : State) (one two : List ℕ) →
+      let e = eventOf event s one two in
+      Stays s (e .state) one two (e .one) (e .two)
+
+-- "a state outside the ranges, steps and limits above", "traces .. not the state's capacity": from a module and its traces to others, an allowed module stays
+-- allowed, and where neither 11 nor 9 refuses a call, neither refuses the next one; the queue's bytes stay as many
+pub record Goes (before after : Module) (one two first second : List ℕ) : Type 0 where
+  pub allowed : allowedModule before ≡ true → allowedModule after ≡ true
+  pub next : guardOf before (length one) (length two) ≡ Done → guardOf after (length first) (length second) ≡ Done
+  pub queued : length (after .queue .bytes) ≡ length (before .queue .bytes)
+
+-- "a state that we made": by a start, refused or not, and by lines, bytes and events, each with any traces
+pub data Made : Module → Type 0 where
+  byStart : (serial port first second : ℕ) → Made (startOf serial port first second .after)
+  byLine : (room : ℕ) (bytes : List ℕ) (m : Module) (one two : List ℕ) → Made m → Made (lineCall room bytes m one two .after)
+  byByte : (room b : ℕ) (mark : Bool) (m : Module) (one two : List ℕ) → Made m → Made (byteCall room b mark m one two .after)
+  byEvent : (event : Event) (m : Module) (one two : List ℕ) → Made m → Made (eventCall event m one two .after)
+
+-- every start, refused ones too, gives an allowed module with the queue's 256 bytes, over traces that are not refused by 9 where it is not refused; every
+-- line, byte and event leads on from there, so that no module that we made is refused by 11
+pub record StaysAllowed : Type 0 where
+  pub start : (serial port first second : ℕ) → allowedModule (startOf serial port first second .after) ≡ true
+  pub started : (serial port first second : ℕ) → startOf serial port first second .outcome ≡ Done →
+      guardOf (startOf serial port first second .after) first second ≡ Done
+  pub queued : (serial port first second : ℕ) → length (startOf serial port first second .after .queue .bytes) ≡ lineLimit
+  pub line : (room : ℕ) (bytes : List ℕ) (m : Module) (one two : List ℕ) →
+      let c = lineCall room bytes m one two in
+      Goes m (c .after) one two (c .one) (c .two)
+  pub byte : (room b : ℕ) (mark : Bool) (m : Module) (one two : List ℕ) → length (m .queue .bytes) ≡ lineLimit →
+      let c = byteCall room b mark m one two in
+      Goes m (c .after) one two (c .one) (c .two)
+  pub event : (event : Event) (m : Module) (one two : List ℕ) →
+      let c = eventCall event m one two in
+      Goes m (c .after) one two (c .one) (c .two)
+  pub made : (m : Module) → Made m → allowedModule m ≡ true

@@ -1,0 +1,6 @@
+-- The demands on the module as a whole.
+pub mod Allowed
+pub mod Demand1
+pub mod Written
+pub mod Demand2
+pub mod Lines

@@ -1,0 +1,27 @@
+-- Numbers are read and written exactly: what a reply says of a value that a state may keep sets that value again.
+use Prim.Native.Nat.{ℕ}
+use mathlib.Core.Path.{_≡_}
+use mathlib.Core.Bool.{true}
+use mathlib.Core.List.{List}
+use Rattle.number.specs.Number.{isNumber}
+use Rattle.number.specs.declared.Argument.the-variants.{Value}
+use Rattle.settings.specs.Table.{rowOf}
+use Rattle.settings.specs.Setting.{settingOf}
+use Rattle.settings.specs.Allowed.{keeps}
+use Rattle.text.specs.Text.{signedText}
+
+-- the text of the value kept as v at an entry
+abbrev pub written : ℕ → ℕ → List ℕ
+written entry v = signedText (rowOf entry .decimals) (rowOf entry .bias) v
+
+pub record Again (entry v : ℕ) : Type 0 where
+  pub number : isNumber (written entry v) ≡ true
+  pub value : settingOf entry (written entry v) ≡ Value v
+
+-- for every entry and every value
+abbrev pub WrittenAgain : Type 0
+WrittenAgain = (entry v : ℕ) → keeps entry v ≡ true → Again entry v
+
+-- so no two values have the same text
+abbrev pub WrittenApart : Type 0
+WrittenApart = (entry v w : ℕ) → keeps entry v ≡ true → keeps entry w ≡ true → written entry v ≡ written entry w → v ≡ w

@@ -1,0 +1,4 @@
+-- Laws on events.
+pub mod Crossed
+pub mod Stays
+pub mod Refused

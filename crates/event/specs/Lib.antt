@@ -1,0 +1,2 @@
+-- What events do.
+pub mod Event

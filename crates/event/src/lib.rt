@@ -1,0 +1,143 @@
+// Events: a new latest pair, a tick, a trigger, a measured frequency, raised bits.
+ghost use mathlib.Core.Path.{_≡_};
+ghost use Rattle.event.specs.Event.{Occurs, legalPair, pairTaken, takesFrequency, withExternal, measuredBy, bitsRaised, sampledIn, eventOf};
+use refusal::Outcome;
+use refusal::Refusal;
+use state::Moving;
+use state::Pair;
+use state::State;
+use storage::Sampled;
+
+// LIA bit 3: a measured frequency is not taken.
+const NOT_TAKEN: u8 = 8;
+
+pub enum Event {
+    Latest(u32, u32),
+    Tick,
+    Trigger,
+    Measured(u32),
+    Raised(u8, u8),
+}
+
+// The state after an event, and whether it was refused.
+pub struct Happened {
+    pub state: State,
+    pub outcome: Outcome,
+}
+
+// Whether both points are legal.
+fn legal_pair(w: u32, v: u32) -> bool
+    ensures { λ r. ⌜ r ≡ legalPair w v ⌝ }
+{
+    if point::legal(w) {
+        return point::legal(v);
+    }
+    false
+}
+
+// A new latest pair, of two legal points.
+fn new_pair(s: State, w: u32, v: u32) -> Happened
+    ensures { λ r. ⌜ r ≡ pairTaken w v s ⌝ }
+{
+    if legal_pair(w, v) {
+        let latest = Pair { one: w, two: v };
+        let mut t = s;
+        t.latest = latest;
+        return Happened {
+            state: t,
+            outcome: Outcome::Done,
+        };
+    }
+    Happened {
+        state: s,
+        outcome: Outcome::Refused(Refusal::BadEvent),
+    }
+}
+
+// Whether a measured frequency is taken: in its range, and the detection frequency would be within the limit.
+fn takes_frequency(s: State, frequency: u32) -> bool
+    ensures { λ r. ⌜ r ≡ takesFrequency s frequency ⌝ }
+{
+    if settings::frequency_in_range(frequency) {
+        let harmonic = settings::value_of(s.settings, settings::HARM) as u64;
+        return settings::within_limit(harmonic * frequency as u64);
+    }
+    false
+}
+
+// The state with another external frequency.
+fn with_external(s: State, frequency: u32) -> State
+    ensures { λ r. ⌜ r ≡ withExternal frequency s ⌝ }
+{
+    let moving = s.moving;
+    let storage = moving.storage;
+    let moved = Moving {
+        external: frequency,
+        storage,
+    };
+    let mut t = s;
+    t.moving = moved;
+    t
+}
+
+// A measured frequency: ignored, taken, or not taken.
+fn measured(s: State, frequency: u32) -> State
+    ensures { λ r. ⌜ r ≡ measuredBy frequency s ⌝ }
+{
+    let mode = settings::value_of(s.settings, settings::FMOD);
+    if mode == settings::INTERNAL {
+        return s;
+    }
+    if takes_frequency(s, frequency) {
+        let old = state::detection_now(s);
+        return state::crossed(with_external(s, frequency), old);
+    }
+    let mut t = s;
+    t.registers = status::with_lia(s.registers, NOT_TAKEN);
+    t
+}
+
+// Raised bits, where an event may raise them.
+fn raised(s: State, lia: u8, errors: u8) -> Happened
+    ensures { λ r. ⌜ r ≡ bitsRaised lia errors s ⌝ }
+{
+    if status::may_raise(lia, errors) {
+        let mut t = s;
+        t.registers = status::with_raised(s.registers, lia, errors);
+        return Happened {
+            state: t,
+            outcome: Outcome::Done,
+        };
+    }
+    Happened {
+        state: s,
+        outcome: Outcome::Refused(Refusal::BadEvent),
+    }
+}
+
+// A trigger or a tick: the latest pair goes into the traces where it is stored.
+fn sample(s: State, p: Sampled, one: &mut [u32], two: &mut [u32]) -> Happened
+    ensures { λ r. ⌜ Occurs (sampledIn p s (now (one .entry)) (now (two .entry))) r (now (one .exit)) (now (two .exit)) ⌝ }
+{
+    state::store(s, p, one, two);
+    Happened {
+        state: state::sampled(s, p),
+        outcome: Outcome::Done,
+    }
+}
+
+// What an event does to the state and to the traces.
+pub fn occur(s: State, e: Event, one: &mut [u32], two: &mut [u32]) -> Happened
+    ensures { λ r. ⌜ Occurs (eventOf e s (now (one .entry)) (now (two .entry))) r (now (one .exit)) (now (two .exit)) ⌝ }
+{
+    match e {
+        Event::Latest(w, v) => new_pair(s, w, v),
+        Event::Tick => sample(s, state::tick_of(s), one, two),
+        Event::Trigger => sample(s, state::trigger_of(s), one, two),
+        Event::Measured(frequency) => Happened {
+            state: measured(s, frequency),
+            outcome: Outcome::Done,
+        },
+        Event::Raised(lia, errors) => raised(s, lia, errors),
+    }
+}

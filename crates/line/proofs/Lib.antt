@@ -1,0 +1,5 @@
+-- Laws on commands and lines.
+pub mod Cleaned
+pub mod Effects
+pub mod Steps
+pub mod Turns

@@ -1,0 +1,115 @@
+-- A line on its way: where its commands lie, and what a turn of the loop does. Assumes nothing.
+use Prim.Native.Nat.{ℕ, suc, _+_, _-_, _<_, _≤_}
+use mathlib.Core.Path.{_≡_, refl, sym, ap, _∙_}
+use mathlib.Core.Bool.{Bool, true, false, cond}
+use mathlib.Core.List.{List, [], _∷_, _++_}
+use native.Mathlib.Omega.{arith}
+use lib.Dec.{eqb}
+use lib.ListN.{length, take, drop, length-drop, take-append-drop}
+use lib.Seq.{drop-drop, length-take-le}
+use Rattle.divide.specs.Divide.{span, parts, onHead}
+use Rattle.divide.proofs.Span.{parts-more, parts-last}
+use Rattle.reply.specs.Reply.{over}
+use Rattle.reply.proofs.Over.{over-take, over-drop}
+use Rattle.line.specs.declared.Progress.{Progress}
+use Rattle.line.specs.Line.{Line, semicolon, stepOf, runAll, lineAt, Runs}
+
+-- what is left of the line does from here what the whole does from the start; the room past the bytes written is as it was
+pub record OnWay (text one₀ two₀ reply₀ : List ℕ) (p₀ : Progress) (one two reply : List ℕ) (p : Progress) (a : ℕ) : Type 0 where
+  pub inside : a ≤ length text
+  pub same :
+      runAll (length reply₀) (parts semicolon text) (lineAt p₀ one₀ two₀ reply₀) ≡ runAll (length reply₀) (parts semicolon (drop a text)) (lineAt p one two reply)
+  pub rest : drop (p .at) reply ≡ drop (p .at) reply₀
+  pub fits : p .at ≤ length reply
+  pub long : length reply ≡ length reply₀
+  pub long-one : length one ≡ length one₀
+  pub long-two : length two ≡ length two₀
+  pub counted : p .count ≤ a
+
+-- the first command of a line, and the others
+parts-head : (s : List ℕ) → parts semicolon s ≡ take (span semicolon s) s ∷ drop 1 (parts semicolon s)
+unfolding span parts onHead
+parts-head [] = refl
+parts-head (b ∷ bs) = by (parts-head bs) (eqb b semicolon)
+  where
+    by : parts semicolon bs ≡ take (span semicolon bs) bs ∷ drop 1 (parts semicolon bs) → (t : Bool) →
+        cond t ([] ∷ parts semicolon bs) (onHead b (parts semicolon bs))
+        ≡ take (cond t 0 (suc (span semicolon bs))) (b ∷ bs) ∷ drop 1 (cond t ([] ∷ parts semicolon bs) (onHead b (parts semicolon bs)))
+    by ih true = refl
+    by ih false = rw ih
+
+-- tails that agree agree further on
+rest-on : (x y : List ℕ) (n m : ℕ) → n ≤ m → drop n x ≡ drop n y → drop m x ≡ drop m y
+rest-on x y n m h p =
+    let e : n + (m - n) ≡ m = omega arith in
+    ap (λ k. drop k x) (sym e) ∙ sym (drop-drop (m - n) n x) ∙ ap (drop (m - n)) p ∙ drop-drop (m - n) n y ∙ ap (λ k. drop k y) e
+
+-- the line that the code is at is the one that it ran
+line-at : (l : Line) (p : Progress) (one two new old : List ℕ) → Runs l p one two new old → lineAt p one two new ≡ l
+line-at l p one two new old r = rw (r .told, r .first, r .second, r .reply, over-take (l .out) old)
+
+past-written : (l : Line) (p : Progress) (one two new old : List ℕ) → Runs l p one two new old → drop (p .at) new ≡ drop (p .at) old
+past-written l p one two new old r = rw (r .told, r .reply, over-drop (l .out) old)
+
+-- the line that the code is at, as the code's answer, where the room past the bytes written is as it was
+as-ran : (l : Line) (p : Progress) (one two new old : List ℕ) → l ≡ lineAt p one two new → p .at ≤ length new → drop (p .at) new ≡ drop (p .at) old →
+    Runs l p one two new old
+unfolding over
+as-ran l p one two new old e f g =
+    let k : length (take (p .at) new) ≡ p .at = length-take-le (p .at) new f in
+    rw e
+    (record {
+      told = rw k;
+      first = refl;
+      second = refl;
+      reply = rw k (sym (ap (λ t. take (p .at) new ++ t) (sym g) ∙ take-append-drop (p .at) new));
+    })
+
+module _ {text one₀ two₀ reply₀ : List ℕ} {p₀ : Progress} {one two reply : List ℕ} {p : Progress} {a : ℕ}
+    (v : OnWay text one₀ two₀ reply₀ p₀ one two reply p a)
+    (e : ℕ) (at-e : e ≡ a + span semicolon (drop a text))
+    (q : Progress) (one′ two′ reply′ : List ℕ)
+    (st : Runs (stepOf (length reply) (take (e - a) (drop a text)) (lineAt p one two reply)) q one′ two′ reply′ reply)
+    (on : p .at ≤ q .at) (in-room : q .at ≤ length reply′) where
+  turned : runAll (length reply₀) (parts semicolon text) (lineAt p₀ one₀ two₀ reply₀)
+      ≡ cond (q .dropped) (lineAt q one′ two′ reply′) (runAll (length reply₀) (drop 1 (parts semicolon (drop a text))) (lineAt q one′ two′ reply′))
+  unfolding runAll
+  turned =
+      let k : e - a ≡ span semicolon (drop a text) = omega arith in
+      let s : lineAt q one′ two′ reply′ ≡ stepOf (length reply₀) (take (span semicolon (drop a text)) (drop a text)) (lineAt p one two reply) =
+      line-at _ q one′ two′ reply′ reply st ∙ rw (v .long, k) in
+      v .same ∙ ap (λ cs. runAll (length reply₀) cs (lineAt p one two reply)) (parts-head (drop a text)) ∙ rw (← s)
+
+  gone-on : drop (q .at) reply′ ≡ drop (q .at) reply₀
+  gone-on = past-written _ q one′ two′ reply′ reply st ∙ rest-on reply reply₀ (p .at) (q .at) on (v .rest)
+
+  pub stopped : q .dropped ≡ true → Runs (runAll (length reply₀) (parts semicolon text) (lineAt p₀ one₀ two₀ reply₀)) q one′ two′ reply′ reply₀
+  stopped d = as-ran _ q one′ two′ reply′ reply₀ (turned ∙ rw d) in-room gone-on
+
+  pub ended : q .dropped ≡ false → e ≡ length text →
+      Runs (runAll (length reply₀) (parts semicolon text) (lineAt p₀ one₀ two₀ reply₀)) q one′ two′ reply′ reply₀
+  unfolding runAll
+  ended d l =
+      let i = v .inside in
+      let h : span semicolon (drop a text) ≡ length (drop a text) = simp length-drop (omega arith) in
+      as-ran _ q one′ two′ reply′ reply₀ (turned ∙ rw (d, parts-last semicolon (drop a text) h)) in-room gone-on
+
+  pub again : q .dropped ≡ false → e < length text → length reply′ ≡ length reply → length one′ ≡ length one → length two′ ≡ length two →
+      q .count ≡ p .count + 1 → OnWay text one₀ two₀ reply₀ p₀ one′ two′ reply′ q (e + 1)
+  again d l x y z n =
+      let i = v .inside in
+      let g = v .counted in
+      let h : span semicolon (drop a text) < length (drop a text) = simp length-drop (omega arith) in
+      let j : a + suc (span semicolon (drop a text)) ≡ e + 1 = omega arith in
+      let m : drop (suc (span semicolon (drop a text))) (drop a text) ≡ drop (e + 1) text =
+      drop-drop (suc (span semicolon (drop a text))) a text ∙ ap (λ k. drop k text) j in
+      record {
+        inside = omega arith;
+        same = turned ∙ rw (d, parts-more semicolon (drop a text) h, m);
+        rest = gone-on;
+        fits = in-room;
+        long = x ∙ v .long;
+        long-one = y ∙ v .long-one;
+        long-two = z ∙ v .long-two;
+        counted = omega arith;
+      }

@@ -1,0 +1,3 @@
+-- What a command and a line do.
+pub mod Perform
+pub mod Line

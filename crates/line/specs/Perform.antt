@@ -1,0 +1,82 @@
+-- What one command does to the state, the traces and the reply: document 01, "Refusal numbers".
+use Prim.Native.Nat.{ℕ}
+use mathlib.Core.Bool.{Bool, cond}
+use mathlib.Core.Path.{_≡_}
+use mathlib.Core.List.{List, []}
+use lib.ListN.{length}
+use Rattle.refusal.specs.declared.Refusal.{Refusal}
+use Rattle.refusal.specs.declared.Refusal.the-variants.{NotAllowed, NoRoom}
+use Rattle.refusal.specs.declared.Outcome.{Outcome}
+use Rattle.refusal.specs.declared.Outcome.the-variants as outcome
+use Rattle.command.specs.declared.Kind.{Kind}
+use Rattle.command.specs.declared.Parsed.{Parsed}
+use Rattle.command.specs.declared.Parsed.the-variants.{Empty, Taken, Refused}
+use Rattle.storage.specs.declared.Sampled.{Sampled}
+use Rattle.state.specs.State.{markedBy}
+use Rattle.state.specs.Storing.{storedIn}
+use Rattle.state.specs.declared.State.{State}
+use Rattle.change.specs.Allows.{allowsOf}
+use Rattle.change.specs.Change.{storageAfter, stateAfter}
+use Rattle.reply.specs.Reply.{over, fitsIn}
+use Rattle.answer.specs.Reply.{replyOf}
+use Rattle.line.specs.declared.Performed.{Performed}
+
+-- the state and both traces after a command, its reply bytes, and whether it was refused
+pub record Effect : Type 0 where
+  pub state : State
+  pub one : List ℕ
+  pub two : List ℕ
+  pub out : List ℕ
+  pub outcome : Outcome
+
+-- a refused command: its error bit, and nothing else
+abbrev pub refusedBy : Refusal → State → List ℕ → List ℕ → Effect
+refusedBy r s one two = record { state = markedBy r s; one = one; two = two; out = []; outcome = outcome.Refused r }
+
+-- an empty command: "empty ones do nothing"
+abbrev pub nothing : State → List ℕ → List ℕ → Effect
+nothing s one two = record { state = s; one = one; two = two; out = []; outcome = outcome.Done }
+
+-- what a command does to storage
+abbrev pub sampledBy : Kind → State → Sampled
+sampledBy kind s = storageAfter kind (s .settings) (s .moving) (s .unit .capacity)
+
+-- a command that is not refused
+unfoldable pub doneBy : Kind → List ℕ → State → List ℕ → List ℕ → Effect
+doneBy kind reply s one two =
+    record {
+      state = stateAfter kind s;
+      one = storedIn (sampledBy kind s) s (s .latest .one) one;
+      two = storedIn (sampledBy kind s) s (s .latest .two) two;
+      out = reply;
+      outcome = outcome.Done;
+    }
+
+-- "for each command 1, 2 .., 3, 4": 3, "not allowed in this state"; then 4, "reply exceeds the room left"
+unfoldable pub performed : ℕ → Bool → Kind → State → List ℕ → List ℕ → Effect
+performed room waiting kind s one two =
+    let reply = replyOf kind s waiting one two in
+    cond (allowsOf (s .settings) (s .moving) kind)
+    (cond (fitsIn reply room) (doneBy kind reply s one two) (refusedBy NoRoom s one two))
+    (refusedBy NotAllowed s one two)
+
+-- a command's text as it is read: refused by 1 or 2, empty, or performed
+unfoldable pub commandOf : ℕ → Bool → Parsed → State → List ℕ → List ℕ → Effect
+commandOf room waiting Empty s one two = nothing s one two
+commandOf room waiting (Refused r) s one two = refusedBy r s one two
+commandOf room waiting (Taken c) s one two = performed room waiting (c .kind) s one two
+
+-- what the code gives back for an effect
+abbrev pub performedOf : Effect → Performed
+performedOf e = record { state = e .state; written = length (e .out); outcome = e .outcome }
+
+-- the code's answer r, the traces and the reply room after it are those of the effect; old is the room before
+pub record Does (e : Effect) (r : Performed) (one two new old : List ℕ) : Type 0 where
+  pub told : r ≡ performedOf e
+  pub first : one ≡ e .one
+  pub second : two ≡ e .two
+  pub reply : new ≡ over (e .out) old
+
+-- the code's answer for a refused command
+abbrev pub refusedWith : Refusal → State → Performed
+refusedWith r s = record { state = markedBy r s; written = 0; outcome = outcome.Refused r }

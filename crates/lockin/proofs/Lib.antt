@@ -1,0 +1,2 @@
+-- Laws on the public calls.
+pub mod Given

@@ -1,0 +1,153 @@
+-- What the public calls on a module do, for every input: document 01, "Lines and commands", "Events, status, identity" and "Refusal numbers".
+use Prim.Native.Nat.{ℕ}
+use mathlib.Core.Bool.{Bool, true, false, cond, _&&_}
+use mathlib.Core.Path.{_≡_}
+use mathlib.Core.List.{List, []}
+use lib.Dec.{leb, eqb}
+use lib.ListN.{length}
+use Rattle.refusal.specs.Meaning.{meaningOf}
+use Rattle.refusal.specs.declared.Refusal.{Refusal}
+use Rattle.refusal.specs.declared.Refusal.the-variants.{LongLine, BadTraces, BadState}
+use Rattle.refusal.specs.declared.Outcome.{Outcome}
+use Rattle.refusal.specs.declared.Outcome.the-variants as outcome
+use Rattle.state.specs.State.{markedBy}
+use Rattle.state.specs.Allowed.{allowedState}
+use Rattle.state.specs.declared.State.{State}
+use Rattle.status.specs.Status.{statusByte}
+use Rattle.storage.specs.Storage.{atRest}
+use Rattle.queue.specs.Queue as queue
+use Rattle.queue.specs.declared.Queue.{Queue}
+use Rattle.queue.specs.declared.Ended.{Ended}
+use Rattle.queue.specs.declared.Ended.the-variants as ended
+use Rattle.reply.specs.Reply.{over}
+use Rattle.line.specs.Line.{Line, lineOf}
+use Rattle.line.specs.declared.Answer.{Answer}
+use Rattle.line.specs.declared.Answer.the-variants as answer
+use Rattle.event.specs.Event.{Occurred, eventOf}
+use Rattle.event.specs.declared.Event.{Event}
+use Rattle.lockin.specs.declared.Module.{Module}
+use Rattle.lockin.specs.declared.Told.{Told}
+use Rattle.lockin.specs.declared.Numbers.{Numbers}
+use Rattle.lockin.specs.declared.Called.{Called}
+use Rattle.lockin.specs.declared.Taken.{Taken}
+use Rattle.lockin.specs.declared.Polled.{Polled}
+use Rattle.lockin.specs.declared.Polled.the-variants as polled
+
+-- the paper's numbers for an answer: refusal, place and length; "An answer 0 has place 0"
+unfoldable pub numbered : Answer → ℕ → Numbers
+numbered answer.Passed n = record { refusal = 0; place = 0; length = n }
+numbered (answer.Refused r place) n = record { refusal = meaningOf r .number; place = place; length = n }
+
+unfoldable pub numbersOf : Told → Numbers
+numbersOf t = numbered (t .answer) (t .length)
+
+-- refusal 11: "a state outside the ranges, steps and limits above"; the queue is part of it
+unfoldable pub allowedModule : Module → Bool
+allowedModule m = allowedState (m .state) && queue.keepsOf (m .queue) (m .state .unit .port)
+
+-- "Order: 10, 11, 9": 9, "traces .. not the state's capacity"
+unfoldable pub guardOf : Module → ℕ → ℕ → Outcome
+guardOf m first second =
+    cond (allowedModule m)
+    (cond (eqb first (m .state .unit .capacity) && eqb second (m .state .unit .capacity)) outcome.Done (outcome.Refused BadTraces))
+    (outcome.Refused BadState)
+
+-- a call with a line or a byte: the module and both traces after it, the reply bytes, and what is told
+pub record Call : Type 0 where
+  pub after : Module
+  pub one : List ℕ
+  pub two : List ℕ
+  pub out : List ℕ
+  pub told : Told
+
+abbrev pub toldOf : Answer → ℕ → Told
+toldOf a n = record { answer = a; length = n }
+
+-- 11 and 9: "nothing"
+abbrev pub untouched : Refusal → Module → List ℕ → List ℕ → Call
+untouched r m one two = record { after = m; one = one; two = two; out = []; told = toldOf (answer.Refused r 0) 0 }
+
+unfoldable pub guarded : Outcome → Call → Module → List ℕ → List ℕ → Call
+guarded outcome.Done call m one two = call
+guarded (outcome.Refused r) call m one two = untouched r m one two
+
+-- the length told of a line: under 4 "the line's length told as 0"
+abbrev pub lengthTold : Line → ℕ
+lengthTold l = cond (l .dropped) 0 (length (l .out))
+
+-- a line that ran, and the queue after it
+abbrev pub ran : Line → Queue → Call
+ran l q =
+    record { after = record { state = l .state; queue = q }; one = l .one; two = l .two; out = l .out; told = toldOf (l .answer) (lengthTold l) }
+
+-- 5: "line over 256 bytes": "INP set"
+abbrev pub tooLong : Module → Queue → List ℕ → List ℕ → Call
+tooLong m q one two =
+    record { after = record { state = markedBy LongLine (m .state); queue = q }; one = one; two = two; out = []; told = toldOf (answer.Refused LongLine 0) 0 }
+
+-- "A line handed over whole uses no queue; too long, it is 5 and only sets INP."
+unfoldable pub wholeLine : ℕ → List ℕ → Module → List ℕ → List ℕ → Call
+wholeLine room line m one two =
+    cond (leb (length line) 256) (ran (lineOf room line (m .state) one two) (m .queue)) (tooLong m (m .queue) one two)
+
+unfoldable pub lineCall : ℕ → List ℕ → Module → List ℕ → List ℕ → Call
+lineCall room line m one two = guarded (guardOf m (length one) (length two)) (wholeLine room line m one two) m one two
+
+-- the line that waits in the queue runs, and the queue is empty
+unfoldable pub endedLine : Queue → ℕ → Module → List ℕ → List ℕ → Call
+endedLine q room m one two = ran (lineOf room (queue.waitingBytes q) (m .state) one two) (queue.emptiedOf q)
+
+-- a byte: nothing ends, the line that waits ends and runs, or it is too long
+unfoldable pub fedCall : Ended → Queue → ℕ → Module → List ℕ → List ℕ → Call
+fedCall ended.Nothing q room m one two =
+    record { after = record { state = m .state; queue = q }; one = one; two = two; out = []; told = toldOf answer.Passed 0 }
+fedCall ended.Line q room m one two = endedLine q room m one two
+fedCall ended.TooLong q room m one two = tooLong m q one two
+
+unfoldable pub fedByte : ℕ → ℕ → Bool → Module → List ℕ → List ℕ → Call
+fedByte room b mark m one two =
+    let fed = queue.fedOf (m .queue) (m .state .unit .port) b mark in
+    fedCall (fed .ended) (fed .queue) room m one two
+
+unfoldable pub byteCall : ℕ → ℕ → Bool → Module → List ℕ → List ℕ → Call
+byteCall room b mark m one two = guarded (guardOf m (length one) (length two)) (fedByte room b mark m one two) m one two
+
+-- the code's answer r, the traces and the reply room after it are those of the call; old is the room before: "Where nothing is written, all lent
+-- memory keeps its bytes."
+pub record Answers (c : Call) (r : Called) (one two new old : List ℕ) : Type 0 where
+  pub after : r .after ≡ c .after
+  pub told : r .told ≡ c .told
+  pub first : one ≡ c .one
+  pub second : two ≡ c .two
+  pub reply : new ≡ over (c .out) old
+
+-- an event: the module and both traces after it, and whether it was refused
+pub record EventCall : Type 0 where
+  pub after : Module
+  pub one : List ℕ
+  pub two : List ℕ
+  pub outcome : Outcome
+
+abbrev pub occurred : Occurred → Queue → EventCall
+occurred e q = record { after = record { state = e .state; queue = q }; one = e .one; two = e .two; outcome = e .outcome }
+
+unfoldable pub guardedEvent : Outcome → EventCall → Module → List ℕ → List ℕ → EventCall
+guardedEvent outcome.Done call m one two = call
+guardedEvent (outcome.Refused r) call m one two = record { after = m; one = one; two = two; outcome = outcome.Refused r }
+
+unfoldable pub eventCall : Event → Module → List ℕ → List ℕ → EventCall
+eventCall e m one two = guardedEvent (guardOf m (length one) (length two)) (occurred (eventOf e (m .state) one two) (m .queue)) m one two
+
+pub record Happens (c : EventCall) (r : Taken) (one two : List ℕ) : Type 0 where
+  pub after : r .after ≡ c .after
+  pub outcome : r .outcome ≡ c .outcome
+  pub first : one ≡ c .one
+  pub second : two ≡ c .two
+
+-- the status byte between lines: "1 no command running", "4 .. (0 between lines)"
+unfoldable pub statusBetween : State → ℕ
+statusBetween s =
+    statusByte (s .registers) (s .enables) (record { «at_rest» = atRest (s .moving .storage); idle = true; waiting = false })
+
+unfoldable pub pollOf : Module → Polled
+pollOf m = cond (allowedModule m) (polled.Status (statusBetween (m .state))) (polled.Refused BadState)

@@ -1,0 +1,4 @@
+-- What the public calls do.
+pub mod Start
+pub mod Calls
+pub mod Given

@@ -1,0 +1,174 @@
+// The operation `dump`: the state as text.
+use lockin::Module;
+use queue::Queue;
+use settings::Settings;
+use state::Moving;
+use state::Pair;
+use state::State;
+use state::Unit;
+use status::Enables;
+use status::Registers;
+use storage::Phase;
+use storage::Storage;
+use terminal::put_all;
+use terminal::put_named;
+
+// A setting's name at its first entry, spaces at each other.
+const NAMES: [u8; 136] =
+    *b"phasfmodfreqrslpharmslvlisrcilinofsligndicplsyncsensrmodofltddef            fpop    oexp                    auxv            sratsendtstr";
+
+fn put_unit(out: &mut [u8], at: usize, unit: Unit) -> usize {
+    let serial = put_named(out, at, b"serial=", unit.serial);
+    let port = put_named(out, serial, b" port=", unit.port as u32);
+    put_named(out, port, b" cap=", unit.capacity)
+}
+
+// What stands before an entry's value: a space, its name and `=`, or a comma behind the setting's first.
+fn put_name(out: &mut [u8], at: usize, name: &[u8]) -> usize {
+    if name.len() == 0 {
+        return at;
+    }
+    if name[0] == b' ' {
+        return terminal::put(out, at, b',');
+    }
+    let space = terminal::put(out, at, b' ');
+    let end = put_all(out, space, name);
+    terminal::put(out, end, b'=')
+}
+
+fn put_setting(out: &mut [u8], at: usize, s: Settings, entry: usize) -> usize {
+    let names = NAMES;
+    let row = settings::row_of(entry);
+    if settings::ENTRIES <= entry {
+        return at;
+    }
+    let start = 4 * entry;
+    let next = put_name(out, at, &names[start..start + 4]);
+    terminal::put_signed(out, next, settings::value_of(s, entry), row.bias)
+}
+
+// The external frequency stands behind the internal one.
+fn put_entry(out: &mut [u8], at: usize, s: Settings, external: u32, entry: usize) -> usize {
+    let end = put_setting(out, at, s, entry);
+    if entry == settings::FREQ {
+        return put_named(out, end, b" ext=", external);
+    }
+    end
+}
+
+fn put_settings(out: &mut [u8], at: usize, s: Settings, external: u32) -> usize {
+    let mut end = at;
+    let mut entry = 0;
+    while entry < settings::ENTRIES {
+        end = put_entry(out, end, s, external, entry);
+        entry += 1;
+    }
+    end
+}
+
+fn put_phase(out: &mut [u8], at: usize, phase: Phase) -> usize {
+    match phase {
+        Phase::Reset => put_all(out, at, b" storage=reset"),
+        Phase::Running => put_all(out, at, b" storage=running"),
+        Phase::Paused => put_all(out, at, b" storage=paused"),
+        Phase::Done => put_all(out, at, b" storage=done"),
+    }
+}
+
+fn put_storage(out: &mut [u8], at: usize, s: Storage) -> usize {
+    let phase = s.phase;
+    let end = put_phase(out, at, phase);
+    let held = put_named(out, end, b" held=", s.held);
+    put_named(out, held, b" next=", s.next)
+}
+
+// A text and a word.
+fn put_word(out: &mut [u8], at: usize, name: &[u8], word: u32) -> usize {
+    let end = put_all(out, at, name);
+    terminal::put_word(out, end, word)
+}
+
+fn put_pair(out: &mut [u8], at: usize, pair: Pair) -> usize {
+    let end = put_word(out, at, b" pair=", pair.one);
+    put_word(out, end, b",", pair.two)
+}
+
+// A text and a register.
+fn put_register(out: &mut [u8], at: usize, name: &[u8], value: u8) -> usize {
+    put_named(out, at, name, value as u32)
+}
+
+fn put_registers(out: &mut [u8], at: usize, r: Registers) -> usize {
+    let standard = put_register(out, at, b" esr=", r.standard);
+    let lia = put_register(out, standard, b" lia=", r.lia);
+    put_register(out, lia, b" err=", r.errors)
+}
+
+fn put_enables(out: &mut [u8], at: usize, e: Enables) -> usize {
+    let standard = put_register(out, at, b" ese=", e.standard);
+    let service = put_register(out, standard, b" sre=", e.service);
+    let lia = put_register(out, service, b" liae=", e.lia);
+    put_register(out, lia, b" erre=", e.errors)
+}
+
+fn put_dropping(out: &mut [u8], at: usize, dropping: bool) -> usize {
+    if dropping {
+        return put_all(out, at, b" dropping=1");
+    }
+    put_all(out, at, b" dropping=0")
+}
+
+fn put_queue(out: &mut [u8], at: usize, q: Queue) -> usize {
+    let bytes = q.bytes;
+    let name = put_all(out, at, b" queue=");
+    let end = terminal::put_bytes(out, name, terminal::first_of(&bytes, q.len));
+    put_dropping(out, end, q.dropping)
+}
+
+// The words behind a trace's first.
+fn put_words(out: &mut [u8], at: usize, trace: &[u32]) -> usize {
+    let mut end = at;
+    let mut i = 1;
+    while i < trace.len() {
+        end = put_word(out, end, b",", trace[i]);
+        i += 1;
+    }
+    end
+}
+
+fn put_trace(out: &mut [u8], at: usize, name: &[u8], trace: &[u32]) -> usize {
+    if trace.len() == 0 {
+        return put_all(out, at, name);
+    }
+    let end = put_word(out, at, name, trace[0]);
+    put_words(out, end, trace)
+}
+
+fn put_settled(out: &mut [u8], at: usize, s: State) -> usize {
+    let moving = s.moving;
+    let unit = put_unit(out, at, s.unit);
+    put_settings(out, unit, s.settings, moving.external)
+}
+
+fn put_moving(out: &mut [u8], at: usize, moving: Moving, latest: Pair) -> usize {
+    let end = put_storage(out, at, moving.storage);
+    put_pair(out, end, latest)
+}
+
+fn put_status(out: &mut [u8], at: usize, s: State) -> usize {
+    let end = put_registers(out, at, s.registers);
+    put_enables(out, end, s.enables)
+}
+
+fn put_state(out: &mut [u8], at: usize, s: State) -> usize {
+    let settled = put_settled(out, at, s);
+    let moving = put_moving(out, settled, s.moving, s.latest);
+    put_status(out, moving, s)
+}
+
+pub fn put(m: Module, one: &[u32], two: &[u32], out: &mut [u8]) -> usize {
+    let state = put_state(out, 0, m.state);
+    let queue = put_queue(out, state, m.queue);
+    let first = put_trace(out, queue, b" t1=", one);
+    put_trace(out, first, b" t2=", two)
+}

@@ -1,0 +1,59 @@
+// The operation `start`: a fresh module over traces whose words are all 0.
+use crate::operation;
+use crate::operation::Answered;
+use crate::read;
+use crate::read::Start;
+use lockin::Module;
+use lockin::Started;
+
+// The module of a refused start.
+pub fn refused() -> Module {
+    let traces = [0u32; 1];
+    let started = lockin::start(0, u32::MAX, &traces, &traces);
+    started.after
+}
+
+fn clear(trace: &mut [u32]) {
+    let mut i = 0;
+    while i < trace.len() {
+        trace[i] = 0;
+        i += 1;
+    }
+}
+
+fn put_started(started: Started, out: &mut [u8]) -> Answered {
+    let after = started.after;
+    let outcome = started.outcome;
+    let number = refusal::number_of(outcome);
+    Answered {
+        after,
+        end: terminal::put_named(out, 0, b"R ", number as u32),
+    }
+}
+
+// Starts over the first slots of each trace.
+fn begin(serial: u32, port: u32, one: &[u32], two: &[u32], out: &mut [u8]) -> Answered {
+    put_started(lockin::start(serial, port, one, two), out)
+}
+
+pub fn perform(
+    m: Module,
+    text: &[u8],
+    start: usize,
+    one: &mut [u32],
+    two: &mut [u32],
+    out: &mut [u8],
+) -> Answered {
+    let Start::Asked(serial, port, first, second) = read::start_of(text, start) else {
+        return operation::wrong(m, out);
+    };
+    if one.len() < first {
+        return operation::wrong(m, out);
+    }
+    if two.len() < second {
+        return operation::wrong(m, out);
+    }
+    clear(one);
+    clear(two);
+    begin(serial, port, &one[0..first], &two[0..second], out)
+}

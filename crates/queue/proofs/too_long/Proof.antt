@@ -1,0 +1,12 @@
+-- `queue::too_long` meets its contract. Assumes nothing.
+use mathlib.Core.Path.{refl}
+use Rattle.queue.specs.Queue.{tooLongOf}
+use Rattle.queue.proofs.too_long.Statement.{statement}
+use Rattle.queue.proofs.too_long.Tie as tie
+
+returns : tie.Need-returns
+unfolding tooLongOf
+returns c = refl
+
+pub too-long-spec : {M : Type 1} → statement M
+too-long-spec = tie.close (tie.spec returns)

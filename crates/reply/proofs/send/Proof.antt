@@ -1,0 +1,48 @@
+-- `reply::send` meets its contract: a text that fits is copied whole, any other leaves the room as it was. Assumes nothing.
+use lib.ListN.{length-take}
+use native.Mathlib.Omega.{arith}
+use Rattle.text.specs.Text.{shown}
+use Rattle.reply.proofs.Sending.{not-sent, text-sent}
+use borrow.Author.Needs.{needs}
+use Rattle.reply.proofs.send.Statement.{statement}
+use Rattle.reply.proofs.send.Tie as tie
+
+slice-aggregate-shown-length : tie.Need-slice-aggregate-shown-length
+slice-aggregate-shown-length c = search needs
+
+shown-length-requires : tie.Need-shown-length-requires
+shown-length-requires c κs = search needs
+
+returns : tie.Need-returns
+returns c =
+    let t = c .before .before .before .before .before .args .t in
+    not-sent (shown t) (c .before .before .before .before .before .args .out .now) (rw (← c .before .shown-length .ensures) (c .if1 .taken))
+
+slice-aggregate-copy : tie.Need-slice-aggregate-copy
+slice-aggregate-copy c = search needs
+
+copy-requires : tie.Need-copy-requires
+copy-requires c κs =
+    let a = c .before .before .before .before .before .before .before .args in
+    (omega (arith, length-take (a .t .len) (a .t .bytes), c .before .before .before .shown-length .ensures), omega arith)
+
+same-length : tie.Need-same-length
+same-length c = search needs
+
+returns-2 : tie.Need-returns-2
+returns-2 c =
+    let a = c .before .before .before .before .before .before .before .before .before .before .args in
+    let n = c .before .before .before .before .before .before .shown-length in
+    text-sent (a .t .len) (a .t .bytes) (a .out .now) (c .before .before .copy .last .1 .1 .0) (n .result) (n .ensures) (omega arith) (c .before .before .copy .ensures)
+
+pub send-spec : {M : Type 1} → statement M
+send-spec =
+    tie.close
+    (tie.spec
+    slice-aggregate-shown-length
+    shown-length-requires
+    returns
+    slice-aggregate-copy
+    copy-requires
+    same-length
+    returns-2)

@@ -1,0 +1,42 @@
+-- `reply::send_points` meets its contract: points that fit are written from the slot of their place on, any others leave the room as it was. Assumes nothing.
+use native.Mathlib.Omega.{arith}
+use Rattle.reply.specs.Reply.{pointBytes}
+use Rattle.reply.proofs.Over.{pointBytes-length}
+use Rattle.reply.proofs.Sending.{not-sent, points-sent}
+use borrow.Author.Needs.{needs}
+use Rattle.reply.proofs.send_points.Statement.{statement}
+use Rattle.reply.proofs.send_points.Tie as tie
+
+mul-if1 : tie.Need-mul-if1
+mul-if1 c = search needs
+
+returns : tie.Need-returns
+returns c =
+    let a = c .before .before .before .args in
+    not-sent (pointBytes (a .form) (a .trace .now) (a .place) (a .count)) (a .out .now) (rw pointBytes-length (omega arith))
+
+slot-of-requires : tie.Need-slot-of-requires
+slot-of-requires c κs = search needs
+
+put-points-requires : tie.Need-put-points-requires
+put-points-requires c κs =
+    let k = c .before .before .before .before .before in
+    (omega (arith, k .good .0 .1), omega arith)
+
+mul-t9 : tie.Need-mul-t9
+mul-t9 c = search needs
+
+same-length : tie.Need-same-length
+same-length c = search needs
+
+returns-2 : tie.Need-returns-2
+returns-2 c =
+    let a = c .before .before .before .before .before .before .before .before .args in
+    let p = c .before .before .put-points in
+    points-sent (a .form) (a .trace .now) (a .place) (a .count) (c .before .before .before .before .slot-of .result) (a .out .now) (p .last .1 .1 .1 .1 .0)
+    (c .before .before .before .before .slot-of .ensures .0) (omega arith) (p .ensures)
+
+pub send-points-spec : {M : Type 1} → statement M
+send-points-spec =
+    tie.close
+    (tie.spec mul-if1 returns slot-of-requires put-points-requires mul-t9 same-length returns-2)

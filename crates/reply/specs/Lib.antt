@@ -1,0 +1,2 @@
+-- What is written of a reply.
+pub mod Reply

@@ -1,0 +1,47 @@
+-- What is written of a reply: document 01, "Storing points" and refusal 4.
+use Prim.Native.Nat.{ℕ, zero, suc, _%_}
+use mathlib.Core.Bool.{Bool, cond}
+use mathlib.Core.List.{List, [], _++_}
+use lib.Dec.{leb, eqb}
+use lib.ListN.{length, drop, getD}
+use Rattle.point.specs.Point.{floatOf}
+use Rattle.point.specs.Bytes.{littleEndian}
+use Rattle.name.specs.declared.Form.{Form}
+use Rattle.name.specs.declared.Form.the-variants.{Words, Floats}
+use Rattle.reply.specs.declared.Sent.{Sent}
+
+-- "each command of a line is lent the reply buffer from the bytes already written onward": the room's bytes after a reply are the reply's own bytes,
+-- then those that stood there
+unfoldable pub over : List ℕ → List ℕ → List ℕ
+over bytes room = bytes ++ drop (length bytes) room
+
+-- "reply exceeds the room left": then it does not fit
+unfoldable pub fitsIn : List ℕ → ℕ → Bool
+fitsIn bytes room = leb (length bytes) room
+
+-- what is told of a reply: whether it fits, and how many bytes were written
+abbrev pub sentOf : List ℕ → ℕ → Sent
+sentOf bytes room = record { fits = fitsIn bytes room; written = cond (fitsIn bytes room) (length bytes) 0 }
+
+-- the bytes that are written: "Where nothing is written, all lent memory keeps its bytes."
+unfoldable pub sentBytes : List ℕ → ℕ → List ℕ
+sentBytes bytes room = cond (fitsIn bytes room) bytes []
+
+-- "Point n since the last emptying, from 0, lies in slot n mod capacity.": 0 where there is no slot
+abbrev pub slotOf : ℕ → ℕ → ℕ
+slotOf slots place = cond (eqb slots 0) 0 (place % slots)
+
+-- "Point n since the last emptying, from 0, lies in slot n mod capacity.": its word; 0 of an empty trace
+unfoldable pub wordAt : List ℕ → ℕ → ℕ
+wordAt trace place = getD trace (place % length trace) 0
+
+-- "TRCL? i,j,k sends k words", "TRCB? sends the same values as IEEE single floats": a point's word as it is sent
+unfoldable pub formed : Form → ℕ → ℕ
+formed Words word = word
+formed Floats word = floatOf word
+
+-- "TRCL? i,j,k sends k words from bin j, low byte first.": count points from a place on, four bytes each
+unfoldable pub pointBytes : Form → List ℕ → ℕ → ℕ → List ℕ
+pointBytes form trace place zero = []
+pointBytes form trace place (suc count) =
+    littleEndian (formed form (wordAt trace place)) ++ pointBytes form trace (suc place) count

@@ -1,0 +1,223 @@
+// The state of a module but for its queue: settings, frequencies, storage, status, the latest pair, and what is fixed at start.
+ghost use mathlib.Core.Path.{_≡_};
+ghost use Rattle.state.specs.State.{startMoving, startState, detectionNow, crossedFrom, markedBy, samplingOf};
+ghost use Rattle.state.specs.Storing.{triggerOf, tickOf, sampledBy, storedIn};
+ghost use Rattle.state.specs.Allowed.{keepsUnit, keepsLatest, keepsParts, allowedState};
+use refusal::Refusal;
+use settings::Settings;
+use status::Enables;
+use status::Registers;
+use storage::Sampled;
+use storage::Sampling;
+use storage::Storage;
+
+// The highest serial number.
+pub const SERIAL_MOST: u32 = 99999;
+
+// The ports, as numbers.
+pub const RS232: u8 = 0;
+
+pub const GPIB: u8 = 1;
+
+// What is fixed at start.
+pub struct Unit {
+    pub serial: u32,
+    pub port: u8,
+    pub capacity: u32,
+}
+
+// A point for each trace.
+pub struct Pair {
+    pub one: u32,
+    pub two: u32,
+}
+
+// What events change too: the last measured external frequency, in units of 0.1 mHz, and storage.
+pub struct Moving {
+    pub external: u32,
+    pub storage: Storage,
+}
+
+pub struct State {
+    pub settings: Settings,
+    pub moving: Moving,
+    pub registers: Registers,
+    pub enables: Enables,
+    pub latest: Pair,
+    pub unit: Unit,
+}
+
+impl Moving {
+    // At start and after *RST.
+    pub fn start() -> Moving
+        ensures { λ r. ⌜ r ≡ startMoving ⌝ }
+    {
+        Moving {
+            external: settings::FREQUENCY_START,
+            storage: storage::emptied(),
+        }
+    }
+}
+
+impl State {
+    // A fresh state.
+    pub fn start(unit: Unit) -> State
+        ensures { λ r. ⌜ r ≡ startState unit ⌝ }
+    {
+        State {
+            settings: Settings::start(),
+            moving: Moving::start(),
+            registers: Registers::start(),
+            enables: Enables::start(),
+            latest: Pair { one: 0, two: 0 },
+            unit,
+        }
+    }
+}
+
+// The detection frequency.
+pub fn detection_now(s: State) -> u64
+    ensures { λ r. ⌜ r ≡ detectionNow s ⌝ }
+{
+    let moving = s.moving;
+    settings::detection(s.settings, moving.external)
+}
+
+// The state once its detection frequency has changed from `old`: a crossing of 200 Hz acts on the time constant and on LIA.
+pub fn crossed(s: State, old: u64) -> State
+    ensures { λ r. ⌜ r ≡ crossedFrom old s ⌝ }
+{
+    let constant = settings::value_of(s.settings, settings::OFLT);
+    let crossing = settings::crossing_of(old, detection_now(s), constant);
+    let mut t = s;
+    t.settings = settings::with_value(s.settings, settings::OFLT, crossing.constant);
+    t.registers = status::with_lia(s.registers, crossing.bits);
+    t
+}
+
+// The state with a refusal's standard event bits set.
+pub fn marked(s: State, refusal: Refusal) -> State
+    ensures { λ r. ⌜ r ≡ markedBy refusal s ⌝ }
+{
+    let meaning = refusal::meaning_of(refusal);
+    let mut t = s;
+    t.registers = status::with_standard(s.registers, meaning.bits);
+    t
+}
+
+// The settings that storing goes by.
+pub fn sampling_of(s: Settings) -> Sampling
+    ensures { λ r. ⌜ r ≡ samplingOf s ⌝ }
+{
+    Sampling {
+        rate: settings::value_of(s, settings::SRAT),
+        end: settings::value_of(s, settings::SEND),
+        start: settings::value_of(s, settings::TSTR),
+    }
+}
+
+// What a trigger does to storage, and what a tick does.
+pub fn trigger_of(s: State) -> Sampled
+    ensures { λ r. ⌜ r ≡ triggerOf s ⌝ }
+{
+    let moving = s.moving;
+    let unit = s.unit;
+    storage::triggered(moving.storage, unit.capacity, sampling_of(s.settings))
+}
+
+pub fn tick_of(s: State) -> Sampled
+    ensures { λ r. ⌜ r ≡ tickOf s ⌝ }
+{
+    let moving = s.moving;
+    let unit = s.unit;
+    storage::ticked(moving.storage, unit.capacity, sampling_of(s.settings))
+}
+
+// The state after a trigger or a tick.
+pub fn sampled(s: State, p: Sampled) -> State
+    ensures { λ r. ⌜ r ≡ sampledBy p s ⌝ }
+{
+    let settings = s.settings;
+    let moving = s.moving;
+    let storage = p.storage;
+    let enables = s.enables;
+    let latest = s.latest;
+    let unit = s.unit;
+    State {
+        settings,
+        moving: Moving {
+            external: moving.external,
+            storage,
+        },
+        registers: status::with_lia(s.registers, p.bits),
+        enables,
+        latest,
+        unit,
+    }
+}
+
+// Stores the latest pair of the state in the slot that its next point goes to, where a trigger or a tick stores it.
+pub fn store(s: State, p: Sampled, one: &mut [u32], two: &mut [u32])
+    ensures { λ _. ⌜ (now (one .exit) ≡ storedIn p s (s .latest .one) (now (one .entry))) × (now (two .exit) ≡ storedIn p s (s .latest .two) (now (two .entry))) ⌝ }
+{
+    let stores = p.stores;
+    if stores {
+        let moving = s.moving;
+        let storage = moving.storage;
+        let latest = s.latest;
+        storage::put_pair(one, two, storage.next, latest.one, latest.two);
+    }
+}
+
+fn keeps_latest(p: Pair) -> bool
+    ensures { λ r. ⌜ r ≡ keepsLatest p ⌝ }
+{
+    if point::legal(p.one) {
+        return point::legal(p.two);
+    }
+    false
+}
+
+fn keeps_unit(u: Unit) -> bool
+    ensures { λ r. ⌜ r ≡ keepsUnit u ⌝ }
+{
+    if SERIAL_MOST < u.serial {
+        return false;
+    }
+    if GPIB < u.port {
+        return false;
+    }
+    if u.capacity < settings::CAPACITY_LEAST {
+        return false;
+    }
+    u.capacity <= settings::CAPACITY_MOST
+}
+
+// Whether storage, status and settings are those of an allowed state.
+fn keeps_parts(s: State) -> bool
+    ensures { λ r. ⌜ r ≡ keepsParts s ⌝ }
+{
+    let moving = s.moving;
+    let unit = s.unit;
+    let end = settings::value_of(s.settings, settings::SEND);
+    if settings::allowed(s.settings, moving.external) {
+        if storage::keeps(moving.storage, unit.capacity, end) {
+            return status::keeps(s.registers, s.enables);
+        }
+        return false;
+    }
+    false
+}
+
+// Whether the state is inside the ranges, steps and limits: not refused by 11.
+pub fn allowed(s: State) -> bool
+    ensures { λ r. ⌜ r ≡ allowedState s ⌝ }
+{
+    if keeps_parts(s) {
+        if keeps_latest(s.latest) {
+            return keeps_unit(s.unit);
+        }
+        return false;
+    }
+    false
+}

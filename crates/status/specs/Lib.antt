@@ -1,0 +1,3 @@
+-- The definitions that the contracts of `status` cite.
+pub mod Bits
+pub mod Status

@@ -1,0 +1,4 @@
+-- The laws of `storage`.
+pub mod Slots
+pub mod Kept
+pub mod Stays

@@ -1,0 +1,28 @@
+-- `storage::done_kept` meets its contract. Assumes nothing.
+use borrow.Author.Needs.{needs}
+use mathlib.Core.Path.{sym, _∙_}
+use Rattle.storage.specs.Storage.{doneKept}
+use Rattle.storage.proofs.done_kept.Statement.{statement}
+use Rattle.storage.proofs.done_kept.Tie as tie
+
+is-done-requires : tie.Need-is-done-requires
+is-done-requires c κs = search needs
+
+full-in-one-shot-requires : tie.Need-full-in-one-shot-requires
+full-in-one-shot-requires c κs = search needs
+
+returns : tie.Need-returns
+unfolding doneKept
+returns c = rw (sym (c .before .before .before .full-in-one-shot .ensures) ∙ c .before .before .if1 .taken, sym (c .before .before .before .before .is-done .ensures) ∙ c .before .if2 .taken)
+
+returns-2 : tie.Need-returns-2
+unfolding doneKept
+returns-2 c = rw (sym (c .before .before .full-in-one-shot .ensures) ∙ c .before .if1 .taken, sym (c .before .before .before .is-done .ensures) ∙ c .if2 .left)
+
+returns-3 : tie.Need-returns-3
+unfolding doneKept
+returns-3 c = rw (sym (c .before .full-in-one-shot .ensures) ∙ c .if1 .left, c .before .before .is-done .ensures)
+
+pub done-kept-spec : {M : Type 1} → statement M
+done-kept-spec =
+    tie.close (tie.spec is-done-requires full-in-one-shot-requires returns returns-2 returns-3)

@@ -1,0 +1,3 @@
+-- The definitions that the contracts of `storage` cite.
+pub mod Storage
+pub mod Slots

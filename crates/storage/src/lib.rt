@@ -1,0 +1,344 @@
+// Storage of points: its phase, the points held and the slot that the next point goes to.
+ghost use mathlib.Core.Path.{_≡_};
+ghost use lib.ListN.{set};
+ghost use Rattle.storage.specs.Storage.{emptiedStorage, startedOf, pausedOf, isReset, isRunning, isDone, atRest, nextSlot, heldAfter, fullInOneShot, storedOf};
+ghost use Rattle.storage.specs.Storage.{tickedOf, readiedOf, triggeredOf, oldestOf, holdsOf, slotsKept, doneKept, resetKept, keepsOf};
+
+pub enum Phase {
+    Reset,
+    Running,
+    Paused,
+    Done,
+}
+
+pub struct Storage {
+    pub phase: Phase,
+    pub held: u32,
+    pub next: u32,
+}
+
+// The settings that storing goes by: SRAT, SEND and TSTR.
+pub struct Sampling {
+    pub rate: u32,
+    pub end: u32,
+    pub start: u32,
+}
+
+// What a trigger or a tick does: the storage after it, whether the latest pair is stored (in the slot `next` of the storage before), and the LIA bits that it sets.
+pub struct Sampled {
+    pub storage: Storage,
+    pub stores: bool,
+    pub bits: u8,
+}
+
+// SRAT at which a trigger stores, and no tick.
+pub const EXTERNAL_RATE: u32 = 14;
+
+// SEND for one shot; loop is 1.
+pub const ONE_SHOT: u32 = 0;
+
+// TSTR with which a trigger starts.
+pub const TRIGGER_STARTS: u32 = 1;
+
+// LIA bit 6: a trigger set storage running or stored a pair.
+pub const TRIGGERED: u8 = 64;
+
+// Storage that REST leaves: reset, with no point.
+pub fn emptied() -> Storage
+    ensures { λ r. ⌜ r ≡ emptiedStorage ⌝ }
+{
+    Storage {
+        phase: Phase::Reset,
+        held: 0,
+        next: 0,
+    }
+}
+
+// STRT: runs it from reset or paused.
+pub fn started(s: Storage) -> Storage
+    ensures { λ r. ⌜ r ≡ startedOf s ⌝ }
+{
+    let phase = s.phase;
+    match phase {
+        Phase::Reset => Storage {
+            phase: Phase::Running,
+            held: s.held,
+            next: s.next,
+        },
+        Phase::Running => s,
+        Phase::Paused => Storage {
+            phase: Phase::Running,
+            held: s.held,
+            next: s.next,
+        },
+        Phase::Done => s,
+    }
+}
+
+// PAUS: pauses a running one.
+pub fn paused(s: Storage) -> Storage
+    ensures { λ r. ⌜ r ≡ pausedOf s ⌝ }
+{
+    let phase = s.phase;
+    match phase {
+        Phase::Reset => s,
+        Phase::Running => Storage {
+            phase: Phase::Paused,
+            held: s.held,
+            next: s.next,
+        },
+        Phase::Paused => s,
+        Phase::Done => s,
+    }
+}
+
+pub fn is_reset(s: Storage) -> bool
+    ensures { λ r. ⌜ r ≡ isReset s ⌝ }
+{
+    let phase = s.phase;
+    match phase {
+        Phase::Reset => true,
+        Phase::Running => false,
+        Phase::Paused => false,
+        Phase::Done => false,
+    }
+}
+
+pub fn is_running(s: Storage) -> bool
+    ensures { λ r. ⌜ r ≡ isRunning s ⌝ }
+{
+    let phase = s.phase;
+    match phase {
+        Phase::Reset => false,
+        Phase::Running => true,
+        Phase::Paused => false,
+        Phase::Done => false,
+    }
+}
+
+fn is_done(s: Storage) -> bool
+    ensures { λ r. ⌜ r ≡ isDone s ⌝ }
+{
+    let phase = s.phase;
+    match phase {
+        Phase::Reset => false,
+        Phase::Running => false,
+        Phase::Paused => false,
+        Phase::Done => true,
+    }
+}
+
+// Whether storage is reset or done: status bit 0.
+pub fn at_rest(s: Storage) -> bool
+    ensures { λ r. ⌜ r ≡ atRest s ⌝ }
+{
+    if is_reset(s) {
+        return true;
+    }
+    is_done(s)
+}
+
+// The slot after a slot.
+fn next_slot(slot: u32, capacity: u32) -> u32
+    ensures { λ r. ⌜ r ≡ nextSlot slot capacity ⌝ }
+{
+    let after = slot as u64 + 1;
+    if after < capacity as u64 {
+        return after as u32;
+    }
+    0
+}
+
+// The points held after one more.
+fn held_after(held: u32, capacity: u32) -> u32
+    ensures { λ r. ⌜ r ≡ heldAfter held capacity ⌝ }
+{
+    if held < capacity {
+        return held + 1;
+    }
+    capacity
+}
+
+// Whether so many points fill it in one shot.
+fn full_in_one_shot(held: u32, capacity: u32, end: u32) -> bool
+    ensures { λ r. ⌜ r ≡ fullInOneShot held capacity end ⌝ }
+{
+    if end == ONE_SHOT {
+        return capacity <= held;
+    }
+    false
+}
+
+// Storage after one more point.
+pub fn stored(s: Storage, capacity: u32, end: u32) -> Storage
+    ensures { λ r. ⌜ r ≡ storedOf s capacity end ⌝ }
+{
+    let phase = s.phase;
+    let held = held_after(s.held, capacity);
+    let next = next_slot(s.next, capacity);
+    if full_in_one_shot(held, capacity, end) {
+        return Storage {
+            phase: Phase::Done,
+            held,
+            next,
+        };
+    }
+    Storage { phase, held, next }
+}
+
+// A tick: it stores if storage is running at any rate but the external one.
+pub fn ticked(s: Storage, capacity: u32, by: Sampling) -> Sampled
+    ensures { λ r. ⌜ r ≡ tickedOf s capacity by ⌝ }
+{
+    if is_running(s) {
+        if by.rate != EXTERNAL_RATE {
+            let after = stored(s, capacity, by.end);
+            return Sampled {
+                storage: after,
+                stores: true,
+                bits: 0,
+            };
+        }
+    }
+    Sampled {
+        storage: s,
+        stores: false,
+        bits: 0,
+    }
+}
+
+// Storage as a trigger finds it once it has acted as STRT, where TSTR says so.
+fn readied(s: Storage, by: Sampling) -> Storage
+    ensures { λ r. ⌜ r ≡ readiedOf s by ⌝ }
+{
+    if by.start == TRIGGER_STARTS {
+        return started(s);
+    }
+    s
+}
+
+// A trigger: with TSTR 1 it starts storage; then it stores if storage is running at the external rate.
+pub fn triggered(s: Storage, capacity: u32, by: Sampling) -> Sampled
+    ensures { λ r. ⌜ r ≡ triggeredOf s capacity by ⌝ }
+{
+    let ready = readied(s, by);
+    if is_running(ready) {
+        if by.rate == EXTERNAL_RATE {
+            let after = stored(ready, capacity, by.end);
+            return Sampled {
+                storage: after,
+                stores: true,
+                bits: TRIGGERED,
+            };
+        }
+        if is_running(s) {
+            return Sampled {
+                storage: ready,
+                stores: false,
+                bits: 0,
+            };
+        }
+        return Sampled {
+            storage: ready,
+            stores: false,
+            bits: TRIGGERED,
+        };
+    }
+    Sampled {
+        storage: ready,
+        stores: false,
+        bits: 0,
+    }
+}
+
+// The place of bin 0: bin j lies in slot (oldest + j) mod capacity.
+pub fn oldest(s: Storage, capacity: u32) -> u64
+    ensures { λ r. ⌜ r ≡ oldestOf s capacity ⌝ }
+{
+    let held = s.held;
+    let next = s.next as u64;
+    if held < capacity {
+        return next + (capacity - held) as u64;
+    }
+    next // every slot is held
+}
+
+// Whether the bins from one on, so many of them, are held.
+pub fn holds(s: Storage, bin: u32, count: u32) -> bool
+    ensures { λ r. ⌜ r ≡ holdsOf s bin count ⌝ }
+{
+    bin as u64 + count as u64 <= s.held as u64
+}
+
+// Whether the points held and the next slot agree with the capacity.
+fn slots_kept(s: Storage, capacity: u32) -> bool
+    ensures { λ r. ⌜ r ≡ slotsKept s capacity ⌝ }
+{
+    let held = s.held;
+    let next = s.next;
+    if capacity < held {
+        return false;
+    }
+    if capacity <= next {
+        return false;
+    }
+    if held < capacity {
+        return next == held;
+    }
+    true
+}
+
+// Whether storage is done exactly if it is full in one shot, and then goes on at slot 0.
+fn done_kept(s: Storage, capacity: u32, end: u32) -> bool
+    ensures { λ r. ⌜ r ≡ doneKept s capacity end ⌝ }
+{
+    let done = is_done(s);
+    if full_in_one_shot(s.held, capacity, end) {
+        if done {
+            return s.next == 0;
+        }
+        return false;
+    }
+    !done
+}
+
+// Whether storage that is reset holds no point.
+fn reset_kept(s: Storage) -> bool
+    ensures { λ r. ⌜ r ≡ resetKept s ⌝ }
+{
+    if is_reset(s) {
+        return s.held == 0;
+    }
+    true
+}
+
+// Refusal 11's part: whether a state may hold this storage.
+pub fn keeps(s: Storage, capacity: u32, end: u32) -> bool
+    ensures { λ r. ⌜ r ≡ keepsOf s capacity end ⌝ }
+{
+    if slots_kept(s, capacity) {
+        if done_kept(s, capacity, end) {
+            return reset_kept(s);
+        }
+    }
+    false
+}
+
+// Stores a word in a slot of a trace, where it is there.
+fn put(trace: &mut [u32], slot: u32, word: u32)
+    ensures { λ r. ⌜ now (trace .exit) ≡ set (now (trace .entry)) slot word ⌝ }
+{
+    let at = slot as usize;
+    if at < trace.len() {
+        trace[at] = word;
+    }
+}
+
+// Stores a pair: each word in the slot of its trace, where it is there.
+pub fn put_pair(one: &mut [u32], two: &mut [u32], slot: u32, first: u32, second: u32)
+    ensures { λ r. ⌜ now (one .exit) ≡ set (now (one .entry)) slot first ⌝ }
+    ensures { λ r. ⌜ now (two .exit) ≡ set (now (two .entry)) slot second ⌝ }
+{
+    put(one, slot, first);
+    put(two, slot, second);
+}

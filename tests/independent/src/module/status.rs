@@ -1,0 +1,95 @@
+// Status: the event registers with their enables, service request enables, and the status byte.
+
+use crate::module::storage::Phase;
+
+/// Standard event bit 7, the only one set at start.
+const PON: u8 = 1 << 7;
+
+/// LIA bits that the module itself sets, besides those of a crossing.
+pub const LIA_NOT_TAKEN: u8 = 1 << 3;
+pub const LIA_TRIGGERED: u8 = 1 << 6;
+
+/// Bits of the status byte.
+const STORAGE_IDLE: u8 = 1 << 0;
+const ERR_EVENT: u8 = 1 << 2;
+const LIA_EVENT: u8 = 1 << 3;
+const REPLY_WAITING: u8 = 1 << 4;
+const STANDARD_EVENT: u8 = 1 << 5;
+const SERVICE_REQUEST: u8 = 1 << 6;
+
+/// Bits that were set, and the mask of those that count in the status byte.
+#[derive(Clone, Copy, Debug, Default, PartialEq, Eq)]
+pub struct Register {
+    pub events: u8,
+    pub enables: u8,
+}
+
+impl Register {
+    fn is_raised(self) -> bool {
+        self.events & self.enables != 0
+    }
+}
+
+#[derive(Clone, Copy, Debug, PartialEq, Eq)]
+pub struct Registers {
+    pub standard: Register,
+    pub lia: Register,
+    pub err: Register,
+    pub service: u8,
+}
+
+impl Registers {
+    pub fn start() -> Registers {
+        let standard = Register { events: PON, enables: 0 };
+        Registers { standard, lia: Register::default(), err: Register::default(), service: 0 }
+    }
+
+    /// The event register that a query reads.
+    pub fn events(&mut self, name: &str) -> &mut u8 {
+        match name {
+            "*ESR" => &mut self.standard.events,
+            "LIAS" => &mut self.lia.events,
+            "ERRS" => &mut self.err.events,
+            _ => unreachable!("{name} reads no event register"),
+        }
+    }
+
+    /// The enables that a command sets.
+    pub fn enables(&mut self, name: &str) -> &mut u8 {
+        match name {
+            "*ESE" => &mut self.standard.enables,
+            "LIAE" => &mut self.lia.enables,
+            "ERRE" => &mut self.err.enables,
+            "*SRE" => &mut self.service,
+            _ => unreachable!("{name} has no enables"),
+        }
+    }
+
+    /// Sets the enables of a command to a value; service request enable 6 stays 0.
+    pub fn enable(&mut self, name: &str, value: u8) {
+        *self.enables(name) = if name == "*SRE" { value & !SERVICE_REQUEST } else { value };
+    }
+
+    pub fn clear_events(&mut self) {
+        for register in [&mut self.standard, &mut self.lia, &mut self.err] {
+            register.events = 0;
+        }
+    }
+
+    /// The status byte within a reply.
+    pub fn status_byte(&self, phase: Phase, reply_waiting: bool) -> u8 {
+        let bits = [
+            (matches!(phase, Phase::Reset | Phase::Done), STORAGE_IDLE),
+            (self.err.is_raised(), ERR_EVENT),
+            (self.lia.is_raised(), LIA_EVENT),
+            (reply_waiting, REPLY_WAITING),
+            (self.standard.is_raised(), STANDARD_EVENT),
+        ];
+        let byte = bits.into_iter().filter(|(is_set, _)| *is_set).fold(0, |byte, (_, bit)| byte | bit);
+        if byte & self.service != 0 {
+            byte | SERVICE_REQUEST
+        } else {
+            byte
+        }
+    }
+}

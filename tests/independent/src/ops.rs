@@ -1,0 +1,212 @@
+// The ops protocol: its operations, as texts and as values.
+//
+// What is an operation, to the byte (everything else is answered `?` and does nothing):
+// - A line ends in LF; the last one may lack it. A line of no bytes is passed over without an answer.
+// - One operation has at most 131072 bytes, its LF not counted.
+// - It is a word and its fields, divided by single spaces: a space before the word, after the last
+//   field or twice in a row, a tab or a CR makes it no operation, and so does a field too few or too
+//   many. Words are in small letters.
+// - A number is one or more of the digits 0 to 9 and nothing else; any number of leading zeros is
+//   allowed. Its value is at most
+//       SERIAL, PORT, N, I, CAP   4294967295 (PORT above 1 is an unknown port)
+//       LEN1, LEN2                16384
+//       ROOM                      131072
+//       LIA, ERR                  255
+//       MARK                      1
+//       T                         2, and at least 1
+// - HEX is an even number, at least 2, of the digits 0 to 9 and a to f, or `-` for no bytes.
+// - HH has exactly 2 such digits, W exactly 8.
+
+pub mod compare;
+mod dump;
+mod session;
+pub mod shrink;
+
+pub use session::Session;
+
+use crate::hex;
+use std::fmt;
+
+/// The most bytes of an operation.
+pub const MOST_OPERATION_BYTES: usize = 131_072;
+
+/// The longest trace, and the largest room for a reply.
+pub const MOST_LENGTH: usize = 16_384;
+pub const MOST_ROOM: usize = 131_072;
+
+#[derive(Clone, Debug, PartialEq, Eq)]
+pub enum Operation {
+    Start { serial: u32, port: u32, lengths: [usize; 2] },
+    Line { line: Vec<u8>, room: usize },
+    Byte { byte: u8, end_mark: bool, room: usize },
+    Pair([u32; 2]),
+    Tick,
+    Trigger,
+    Measured(u32),
+    Raise { lia: u8, err: u8 },
+    Poke { trace: usize, slot: usize, word: u32 },
+    Dump,
+    Check { capacity: usize, script: Vec<u8> },
+}
+
+impl Operation {
+    pub fn read(text: &[u8]) -> Option<Operation> {
+        if text.len() > MOST_OPERATION_BYTES {
+            return None;
+        }
+        let fields: Vec<&str> = std::str::from_utf8(text).ok()?.split(' ').collect();
+        Some(match fields[..] {
+            ["start", serial, port, first, second] => Operation::Start {
+                serial: number(serial, u32::MAX)?,
+                port: number(port, u32::MAX)?,
+                lengths: [length(first, MOST_LENGTH)?, length(second, MOST_LENGTH)?],
+            },
+            ["line", line, room] => Operation::Line { line: bytes(line)?, room: length(room, MOST_ROOM)? },
+            ["byte", byte, mark, room] => Operation::Byte {
+                byte: digits(byte, 2)? as u8,
+                end_mark: number(mark, 1)? == 1,
+                room: length(room, MOST_ROOM)?,
+            },
+            ["pair", first, second] => Operation::Pair([digits(first, 8)?, digits(second, 8)?]),
+            ["tick"] => Operation::Tick,
+            ["trigger"] => Operation::Trigger,
+            ["measured", frequency] => Operation::Measured(number(frequency, u32::MAX)?),
+            ["raise", lia, err] => Operation::Raise { lia: number(lia, 255)? as u8, err: number(err, 255)? as u8 },
+            ["poke", trace, slot, word] => Operation::Poke {
+                trace: length(trace, 2)?.checked_sub(1)?,
+                slot: number(slot, u32::MAX)? as usize,
+                word: digits(word, 8)?,
+            },
+            ["dump"] => Operation::Dump,
+            ["check", capacity, script] => {
+                Operation::Check { capacity: number(capacity, u32::MAX)? as usize, script: bytes(script)? }
+            }
+            _ => return None,
+        })
+    }
+}
+
+impl fmt::Display for Operation {
+    fn fmt(&self, f: &mut fmt::Formatter) -> fmt::Result {
+        match self {
+            Operation::Start { serial, port, lengths: [first, second] } => {
+                write!(f, "start {serial} {port} {first} {second}")
+            }
+            Operation::Line { line, room } => write!(f, "line {} {room}", hex::field(line)),
+            Operation::Byte { byte, end_mark, room } => write!(f, "byte {byte:02x} {} {room}", u8::from(*end_mark)),
+            Operation::Pair([first, second]) => write!(f, "pair {first:08x} {second:08x}"),
+            Operation::Tick => write!(f, "tick"),
+            Operation::Trigger => write!(f, "trigger"),
+            Operation::Measured(frequency) => write!(f, "measured {frequency}"),
+            Operation::Raise { lia, err } => write!(f, "raise {lia} {err}"),
+            Operation::Poke { trace, slot, word } => write!(f, "poke {} {slot} {word:08x}", trace + 1),
+            Operation::Dump => write!(f, "dump"),
+            Operation::Check { capacity, script } => write!(f, "check {capacity} {}", hex::field(script)),
+        }
+    }
+}
+
+/// A number of at most `most`.
+fn number(text: &str, most: u32) -> Option<u32> {
+    if text.is_empty() || !text.bytes().all(|byte| byte.is_ascii_digit()) {
+        return None;
+    }
+    text.parse().ok().filter(|&value| value <= most)
+}
+
+fn length(text: &str, most: usize) -> Option<usize> {
+    number(text, most as u32).map(|value| value as usize)
+}
+
+/// The value of exactly `count` hex digits.
+fn digits(text: &str, count: usize) -> Option<u32> {
+    let value = hex::decode(text).filter(|_| text.len() == count)?;
+    Some(value.into_iter().fold(0, |value, byte| value << 8 | u32::from(byte)))
+}
+
+fn bytes(text: &str) -> Option<Vec<u8>> {
+    match text {
+        "-" => Some(Vec::new()),
+        "" => None,
+        _ => hex::decode(text),
+    }
+}
+
+#[cfg(test)]
+mod tests {
+    use super::*;
+
+    #[test]
+    fn operations_are_read_as_written() {
+        for text in [
+            "start 42 1 8 8",
+            "start 4294967295 4294967295 16384 0",
+            "line 2a49444e3f 40",
+            "line - 131072",
+            "byte 0a 1 0",
+            "pair 00ec8000 ffffffff",
+            "tick",
+            "trigger",
+            "measured 4294967295",
+            "raise 255 0",
+            "poke 2 4294967295 0000000f",
+            "dump",
+            "check 4 2a525354",
+        ] {
+            assert_eq!(Operation::read(text.as_bytes()).map(|operation| operation.to_string()), Some(text.to_string()));
+        }
+        assert_eq!(Operation::read(b"measured 000000000000000000007"), Some(Operation::Measured(7)));
+        assert_eq!(Operation::read(b"byte ff 00 00"), Some(Operation::Byte { byte: 255, end_mark: false, room: 0 }));
+    }
+
+    #[test]
+    fn texts_that_are_no_operations() {
+        for text in [
+            "dump ",
+            " dump",
+            "dump\r",
+            "Dump",
+            "dump 1",
+            "tick\t",
+            "start 1 1 4",
+            "start 1 1 4 4 4",
+            "start 1  4 4",
+            "start 1 1 16385 4",
+            "start 4294967296 1 4 4",
+            "start +1 1 4 4",
+            "start -1 1 4 4",
+            "line 2A 4",
+            "line 2 4",
+            "line  4",
+            "line 2a4",
+            "line 2a 131073",
+            "line 2a4g 4",
+            "line -- 4",
+            "byte a 0 4",
+            "byte 0a0 0 4",
+            "byte 0a 2 4",
+            "byte - 0 4",
+            "pair 0 0",
+            "pair 00000000 0000000",
+            "pair 00000000 0000000G",
+            "measured",
+            "measured 4294967296",
+            "measured 1.0",
+            "raise 256 0",
+            "raise 0",
+            "poke 0 0 00000000",
+            "poke 3 0 00000000",
+            "poke 1 4294967296 00000000",
+            "check 4",
+            "check x 2a",
+            "?",
+            "\u{663}",
+        ] {
+            assert_eq!(Operation::read(text.as_bytes()), None, "{text:?}");
+        }
+        assert_eq!(Operation::read(b"dump\xff"), None);
+        let at_most = format!("measured {}7", "0".repeat(MOST_OPERATION_BYTES - 10));
+        assert!(Operation::read(at_most.as_bytes()).is_some());
+        assert!(Operation::read(at_most.replace(' ', " 0").as_bytes()).is_none());
+    }
+}
