@@ -9,7 +9,7 @@ const PORT: u32 = state::GPIB as u32;
 
 const CAPACITY: usize = 8;
 
-// Room for all replies of a line: it has at most 256 bytes, so at most 43 queries of six bytes or more, and no reply has more than 32 bytes, those of eight points.
+// Room for all replies of a line: it has at most 256 bytes, so fewer than 43 queries of five bytes or more with a `;` between them, and a reply has at most 32 bytes, those of eight points.
 const ROOM: usize = 8192;
 
 // The module after a turn, and whether the input goes on.

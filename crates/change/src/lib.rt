@@ -105,7 +105,7 @@ fn set_in(s: Settings, a: SetArgument) -> Settings
     }
 }
 
-fn is_reset(a: Action) -> bool
+pub fn is_reset(a: Action) -> bool
     ensures { λ r. ⌜ r ≡ isReset a ⌝ }
 {
     match a {

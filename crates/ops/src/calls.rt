@@ -1,6 +1,5 @@
 // The operations that call the module or write a trace.
 use crate::operation;
-use crate::operation::Answered;
 use crate::read;
 use crate::read::Byte;
 use crate::read::Happening;
@@ -9,11 +8,12 @@ use crate::read::Poke;
 use lockin::Called;
 use lockin::Module;
 use lockin::Numbers;
+use lockin::Told;
 use terminal::put;
 use terminal::put_named;
 
 // The largest reply buffer, and what each of its bytes is before the call.
-const ROOM: usize = 131072;
+const ROOM: usize = read::ROOM as usize;
 
 const UNTOUCHED: u8 = 0xaa;
 
@@ -30,16 +30,17 @@ fn put_numbers(out: &mut [u8], told: Numbers) -> usize {
     terminal::put_number(out, space, told.length as u64)
 }
 
-// What is told of a line or a byte, and the whole reply buffer.
-fn put_called(called: Called, reply: &[u8], out: &mut [u8]) -> Answered {
-    let after = called.after;
-    let told = called.told;
+fn put_told(out: &mut [u8], told: Told, reply: &[u8]) -> usize {
     let length = put_numbers(out, lockin::numbers_of(told));
     let space = put(out, length, b' ');
-    Answered {
-        after,
-        end: terminal::put_bytes(out, space, reply),
-    }
+    terminal::put_bytes(out, space, reply)
+}
+
+// Writes what is told of a line or a byte, and the whole reply buffer.
+fn tell(told: Told, reply: &[u8]) {
+    let mut out = io::buffer();
+    let end = put_told(&mut out, told, reply);
+    terminal::end_line(&mut out, end);
 }
 
 fn take(
@@ -56,122 +57,84 @@ fn take(
     }
 }
 
-fn answer(
+fn perform(
     m: Module,
     call: Call,
     text: &[u8],
     one: &mut [u32],
     two: &mut [u32],
     reply: &mut [u8],
-    out: &mut [u8],
-) -> Answered {
+) -> Module {
     let called = take(m, call, text, one, two, reply);
-    put_called(called, reply, out)
+    let told = called.told;
+    tell(told, reply);
+    called.after
 }
 
 // A call with so much room for the reply.
-fn run(
+fn perform_within(
     m: Module,
     call: Call,
     text: &[u8],
     room: usize,
     one: &mut [u32],
     two: &mut [u32],
-    out: &mut [u8],
-) -> Answered {
+) -> Module {
     let mut reply = [UNTOUCHED; ROOM];
     if ROOM < room {
-        return operation::wrong(m, out);
+        return operation::wrong(m);
     }
-    answer(m, call, text, one, two, &mut reply[0..room], out)
+    perform(m, call, text, one, two, &mut reply[0..room])
 }
 
-pub fn line(
-    m: Module,
-    text: &[u8],
-    start: usize,
-    one: &mut [u32],
-    two: &mut [u32],
-    out: &mut [u8],
-) -> Answered {
+pub fn line(m: Module, text: &[u8], start: usize, one: &mut [u32], two: &mut [u32]) -> Module {
     let mut bytes = io::large_buffer();
     let Line::Asked(len, room) = read::line_of(text, start, &mut bytes) else {
-        return operation::wrong(m, out);
+        return operation::wrong(m);
     };
-    run(
+    perform_within(
         m,
         Call::Line,
         terminal::first_of(&bytes, len),
         room,
         one,
         two,
-        out,
     )
 }
 
-pub fn byte(
-    m: Module,
-    text: &[u8],
-    start: usize,
-    one: &mut [u32],
-    two: &mut [u32],
-    out: &mut [u8],
-) -> Answered {
+pub fn byte(m: Module, text: &[u8], start: usize, one: &mut [u32], two: &mut [u32]) -> Module {
     let Byte::Asked(b, mark, room) = read::byte_of(text, start) else {
-        return operation::wrong(m, out);
+        return operation::wrong(m);
     };
-    run(m, Call::Byte(b, mark), text, room, one, two, out)
+    perform_within(m, Call::Byte(b, mark), text, room, one, two)
 }
 
-pub fn event(
-    m: Module,
-    happening: Happening,
-    one: &mut [u32],
-    two: &mut [u32],
-    out: &mut [u8],
-) -> Answered {
+pub fn event(m: Module, happening: Happening, one: &mut [u32], two: &mut [u32]) -> Module {
     let Happening::Asked(e) = happening else {
-        return operation::wrong(m, out);
+        return operation::wrong(m);
     };
     let taken = lockin::take_event(m, e, one, two);
-    let after = taken.after;
     let outcome = taken.outcome;
-    let number = refusal::number_of(outcome);
-    Answered {
-        after,
-        end: put_named(out, 0, b"A ", number as u32),
-    }
+    operation::tell(b"A ", refusal::number_of(outcome));
+    taken.after
 }
 
 // Stores a word in a slot, where it is there.
 fn store(trace: &mut [u32], slot: usize, word: u32) {
+    terminal::flush(b"K\n", 2);
     if slot < trace.len() {
         trace[slot] = word;
     }
 }
 
-fn poked(m: Module, out: &mut [u8]) -> Answered {
-    Answered {
-        after: m,
-        end: put(out, 0, b'K'),
-    }
-}
-
-pub fn poke(
-    m: Module,
-    text: &[u8],
-    start: usize,
-    one: &mut [u32],
-    two: &mut [u32],
-    out: &mut [u8],
-) -> Answered {
+pub fn poke(m: Module, text: &[u8], start: usize, one: &mut [u32], two: &mut [u32]) -> Module {
     let Poke::Asked(trace, slot, word) = read::poke_of(text, start) else {
-        return operation::wrong(m, out);
+        return operation::wrong(m);
     };
     if trace == 1 {
         store(one, slot, word);
-        return poked(m, out);
+        return m;
     }
     store(two, slot, word);
-    poked(m, out)
+    m
 }

@@ -1,8 +1,8 @@
 // The program ops: operations on standard input, one a line, on one module, and an answer to each on standard output, by docs/ops-protocol.md.
 mod calls;
-mod dump;
 mod operation;
 mod read;
+mod scripts;
 mod start;
 
 use libc::STDIN_FILENO;
@@ -11,8 +11,7 @@ use lockin::Module;
 // A line with more bytes is no operation.
 const LINE_LIMIT: usize = 131072;
 
-// The longest trace.
-const SLOTS: usize = 16384;
+const SLOTS: usize = read::SLOTS as usize;
 
 // The module, and how many bytes there are of a line that has not ended, one past the limit where they are too many.
 struct Held {
@@ -54,7 +53,7 @@ fn end_line(held: Held, line: &[u8], one: &mut [u32], two: &mut [u32]) -> Held {
         return Held { current: m, len: 0 };
     }
     Held {
-        current: operation::answer(m, &line[0..len], one, two),
+        current: operation::perform(m, &line[0..len], one, two),
         len: 0,
     }
 }

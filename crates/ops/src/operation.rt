@@ -1,45 +1,41 @@
-// An operation told by its first field, and its answer.
+// An operation told by its first field. It writes its answer and gives the module after it.
 use crate::calls;
-use crate::dump;
 use crate::read;
 use crate::read::Word;
+use crate::scripts;
 use crate::start;
 use lockin::Module;
 
-// The module after an operation, and how many bytes of the answer wait.
-pub struct Answered {
-    pub after: Module,
-    pub end: usize,
-}
-
 // The answer to what is no operation.
-pub fn wrong(m: Module, out: &mut [u8]) -> Answered {
-    Answered {
-        after: m,
-        end: terminal::put(out, 0, b'?'),
-    }
-}
-
-// Writes the answer to what is no operation.
 pub fn refuse() {
     terminal::flush(b"?\n", 2);
 }
 
-fn put_dump(
-    m: Module,
-    text: &[u8],
-    next: usize,
-    one: &[u32],
-    two: &[u32],
-    out: &mut [u8],
-) -> Answered {
+pub fn wrong(m: Module) -> Module {
+    refuse();
+    m
+}
+
+// The answer of a text and a refusal's number.
+pub fn tell(text: &[u8], number: u8) {
+    let mut out = io::buffer();
+    let end = terminal::put_named(&mut out, 0, text, number as u32);
+    terminal::end_line(&mut out, end);
+}
+
+// The answer to `dump`.
+fn show(m: Module, one: &[u32], two: &[u32]) {
+    let mut out = io::buffer();
+    let end = dump::put(&mut out, 0, m, one, two);
+    terminal::end_line(&mut out, end);
+}
+
+fn asked_dump(m: Module, text: &[u8], next: usize, one: &[u32], two: &[u32]) -> Module {
     if read::ended(text, next) {
-        return Answered {
-            after: m,
-            end: dump::put(m, one, two, out),
-        };
+        show(m, one, two);
+        return m;
     }
-    wrong(m, out)
+    wrong(m)
 }
 
 // An operation on the traces' slots.
@@ -50,15 +46,14 @@ fn perform_on(
     next: usize,
     one: &mut [u32],
     two: &mut [u32],
-    out: &mut [u8],
-) -> Answered {
+) -> Module {
     match word {
-        Word::Line => calls::line(m, text, next, one, two, out),
-        Word::Byte => calls::byte(m, text, next, one, two, out),
-        Word::Poke => calls::poke(m, text, next, one, two, out),
-        Word::Dump => put_dump(m, text, next, one, two, out),
-        Word::Check => wrong(m, out),
-        _ => calls::event(m, read::event_of(word, text, next), one, two, out),
+        Word::Line => calls::line(m, text, next, one, two),
+        Word::Byte => calls::byte(m, text, next, one, two),
+        Word::Poke => calls::poke(m, text, next, one, two),
+        Word::Dump => asked_dump(m, text, next, one, two),
+        Word::Check => scripts::perform(m, text, next),
+        _ => calls::event(m, read::event_of(word, text, next), one, two),
     }
 }
 
@@ -76,40 +71,22 @@ fn perform_within(
     next: usize,
     one: &mut [u32],
     two: &mut [u32],
-    out: &mut [u8],
-) -> Answered {
+) -> Module {
     let slots = slots_of(m);
     if one.len() < slots {
-        return wrong(m, out);
+        return wrong(m);
     }
     if two.len() < slots {
-        return wrong(m, out);
+        return wrong(m);
     }
-    perform_on(
-        m,
-        word,
-        text,
-        next,
-        &mut one[0..slots],
-        &mut two[0..slots],
-        out,
-    )
+    perform_on(m, word, text, next, &mut one[0..slots], &mut two[0..slots])
 }
 
-fn perform(m: Module, text: &[u8], one: &mut [u32], two: &mut [u32], out: &mut [u8]) -> Answered {
+pub fn perform(m: Module, text: &[u8], one: &mut [u32], two: &mut [u32]) -> Module {
     let n = divide::span_of(text, b' ');
     let word = read::word_of(&text[0..n]);
     if let Word::Start = word {
-        return start::perform(m, text, n + 1, one, two, out);
+        return start::perform(m, text, n + 1, one, two);
     }
-    perform_within(m, word, text, n + 1, one, two, out)
-}
-
-// Writes an operation's answer, and gives the module after it.
-pub fn answer(m: Module, text: &[u8], one: &mut [u32], two: &mut [u32]) -> Module {
-    let mut out = io::buffer();
-    let done = perform(m, text, one, two, &mut out);
-    let end = terminal::put(&mut out, done.end, b'\n');
-    terminal::flush(&out, end);
-    done.after
+    perform_within(m, word, text, n + 1, one, two)
 }

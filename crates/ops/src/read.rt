@@ -4,10 +4,10 @@ use terminal::Decoded;
 use terminal::Field;
 use terminal::Number;
 
-// The longest trace, the largest reply buffer, the last bit pattern of a register, and how many traces there are.
-const SLOTS: u32 = 16384;
+// The longest trace, the largest reply buffer, the largest byte, and how many traces there are.
+pub const SLOTS: u32 = 16384;
 
-const ROOM: u32 = 131072;
+pub const ROOM: u32 = 131072;
 
 const LAST_BYTE: u32 = 255;
 
@@ -43,6 +43,12 @@ pub enum Start {
 // How many bytes a line has, and the room for its reply.
 pub enum Line {
     Asked(usize, usize),
+    Wrong,
+}
+
+// A capacity, and how many bytes a script has.
+pub enum Script {
+    Asked(u32, usize),
     Wrong,
 }
 
@@ -153,6 +159,19 @@ pub fn line_of(text: &[u8], start: usize, bytes: &mut [u8]) -> Line {
         return Line::Wrong;
     };
     Line::Asked(len, room as usize)
+}
+
+pub fn script_of(text: &[u8], start: usize, bytes: &mut [u8]) -> Script {
+    let Field::Value(capacity, second) = terminal::number_at(text, start, u32::MAX) else {
+        return Script::Wrong;
+    };
+    if text.len() < second {
+        return Script::Wrong;
+    }
+    let Decoded::Bytes(len) = terminal::decode(&text[second..], bytes) else {
+        return Script::Wrong;
+    };
+    Script::Asked(capacity, len)
 }
 
 pub fn byte_of(text: &[u8], start: usize) -> Byte {

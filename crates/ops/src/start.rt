@@ -1,10 +1,8 @@
 // The operation `start`: a fresh module over traces whose words are all 0.
 use crate::operation;
-use crate::operation::Answered;
 use crate::read;
 use crate::read::Start;
 use lockin::Module;
-use lockin::Started;
 
 // The module of a refused start.
 pub fn refused() -> Module {
@@ -21,39 +19,24 @@ fn clear(trace: &mut [u32]) {
     }
 }
 
-fn put_started(started: Started, out: &mut [u8]) -> Answered {
-    let after = started.after;
+fn begin(serial: u32, port: u32, one: &[u32], two: &[u32]) -> Module {
+    let started = lockin::start(serial, port, one, two);
     let outcome = started.outcome;
-    let number = refusal::number_of(outcome);
-    Answered {
-        after,
-        end: terminal::put_named(out, 0, b"R ", number as u32),
-    }
+    operation::tell(b"R ", refusal::number_of(outcome));
+    started.after
 }
 
-// Starts over the first slots of each trace.
-fn begin(serial: u32, port: u32, one: &[u32], two: &[u32], out: &mut [u8]) -> Answered {
-    put_started(lockin::start(serial, port, one, two), out)
-}
-
-pub fn perform(
-    m: Module,
-    text: &[u8],
-    start: usize,
-    one: &mut [u32],
-    two: &mut [u32],
-    out: &mut [u8],
-) -> Answered {
+pub fn perform(m: Module, text: &[u8], start: usize, one: &mut [u32], two: &mut [u32]) -> Module {
     let Start::Asked(serial, port, first, second) = read::start_of(text, start) else {
-        return operation::wrong(m, out);
+        return operation::wrong(m);
     };
     if one.len() < first {
-        return operation::wrong(m, out);
+        return operation::wrong(m);
     }
     if two.len() < second {
-        return operation::wrong(m, out);
+        return operation::wrong(m);
     }
     clear(one);
     clear(two);
-    begin(serial, port, &one[0..first], &two[0..second], out)
+    begin(serial, port, &one[0..first], &two[0..second])
 }

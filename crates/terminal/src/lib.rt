@@ -13,6 +13,7 @@ pub use hex::Decoded;
 pub use hex::decode;
 pub use hex::put_bytes;
 pub use hex::put_word;
+pub use output::end_line;
 pub use output::first_of;
 pub use output::flush;
 pub use output::put;

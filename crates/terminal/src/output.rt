@@ -32,6 +32,12 @@ pub fn put(out: &mut [u8], at: usize, b: u8) -> usize {
     start
 }
 
+// Writes the bytes that wait and a line's end.
+pub fn end_line(out: &mut [u8], at: usize) {
+    let end = put(out, at, b'\n');
+    flush(out, end);
+}
+
 pub fn put_all(out: &mut [u8], at: usize, bytes: &[u8]) -> usize {
     let mut end = at;
     let mut i = 0;

@@ -1,4 +1,4 @@
-// The operation `dump`: the state as text.
+// The state of a module and its traces as text, by docs/ops-protocol.md: `name=value`, divided by spaces.
 use lockin::Module;
 use queue::Queue;
 use settings::Settings;
@@ -166,8 +166,9 @@ fn put_state(out: &mut [u8], at: usize, s: State) -> usize {
     put_status(out, moving, s)
 }
 
-pub fn put(m: Module, one: &[u32], two: &[u32], out: &mut [u8]) -> usize {
-    let state = put_state(out, 0, m.state);
+// The whole text behind the bytes that wait in a buffer, as `terminal` puts it.
+pub fn put(out: &mut [u8], at: usize, m: Module, one: &[u32], two: &[u32]) -> usize {
+    let state = put_state(out, at, m.state);
     let queue = put_queue(out, state, m.queue);
     let first = put_trace(out, queue, b" t1=", one);
     put_trace(out, first, b" t2=", two)

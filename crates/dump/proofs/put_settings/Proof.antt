@@ -1,10 +1,10 @@
--- `ops::dump::put_settings` is safe and ends: it goes through the 34 entries. Assumes nothing.
+-- `dump::put_settings` is safe and ends: it goes through the 34 entries. Assumes nothing.
 use Prim.Native.Nat.{_≤_, _-_}
 use mathlib.Core.Path.{_≡_}
 use lib.ListN.{length}
 use borrow.Author.Needs.{needs}
-use Rattle.ops.proofs.dump.put_settings.Statement.{statement}
-use Rattle.ops.proofs.dump.put_settings.Tie as tie
+use Rattle.dump.proofs.put_settings.Statement.{statement}
+use Rattle.dump.proofs.put_settings.Tie as tie
 
 abbrev Inv-loop : tie.InvT-loop
 Inv-loop out₀ at s external end₀ entry₀ out end entry = (length out ≡ length out₀) × (entry ≤ 34)

@@ -1,10 +1,10 @@
--- `ops::dump::put_words` is safe and ends: the buffer keeps its length, the measure is the number of words that are left. Assumes nothing.
+-- `dump::put_words` is safe and ends: the buffer keeps its length, the measure is the number of words that are left. Assumes nothing.
 use Prim.Native.Nat.{_-_}
 use mathlib.Core.Path.{_≡_}
 use lib.ListN.{length}
 use borrow.Author.Needs.{needs}
-use Rattle.ops.proofs.dump.put_words.Statement.{statement}
-use Rattle.ops.proofs.dump.put_words.Tie as tie
+use Rattle.dump.proofs.put_words.Statement.{statement}
+use Rattle.dump.proofs.put_words.Tie as tie
 
 abbrev Inv-loop : tie.InvT-loop
 Inv-loop out₀ at trace end₀ i₀ t6 out end i = length out ≡ length out₀

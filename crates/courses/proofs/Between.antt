@@ -1,0 +1,215 @@
+-- A course's moving part lies between those of the low and the high course, under the settings that all have: one command keeps it so.
+use Prim.Native.Nat.{ℕ, _+_, _≤_}
+use native.Mathlib.Omega.{arith}
+use native.Mathlib.Nat.{mul-le-mul-left}
+use mathlib.Core.Bool.{Bool, true, false, cond, not, _&&_, _||_, and-eq-true-iff, false≢true}
+use mathlib.Core.Path.{_≡_, refl, sym, _∙_}
+use lib.Dec.{leb, eqb}
+use lib.Seq.{getD-set-other}
+use borrow.Author.Tests.{leb-true, le-leb, ltb-false, le-ltb, eqb-false, not-true}
+use Rattle.settings.specs.Table.{fmod, freq, harm, oflt, send, startSettings, behind, valueOf, withValue}
+use Rattle.settings.specs.Frequency.{hertz, inForce, detectionOf, withinLimit, above200, timeConstantStands, externalStart, frequencyInRange}
+use Rattle.settings.specs.Allowed.{keepsAll, allowedOf}
+use Rattle.settings.specs.declared.Settings.{Settings}
+use Rattle.settings.proofs.Kept.{with-keeps}
+use Rattle.settings.proofs.Start.{start-allowed}
+use Rattle.storage.specs.Storage.{triggerStarts, isReset, emptiedStorage, startedOf, pausedOf, readiedOf, triggeredOf, holdsOf}
+use Rattle.storage.specs.declared.Storage.{Storage}
+use Rattle.storage.specs.declared.Sampling.{Sampling}
+use Rattle.name.specs.declared.Action.{Action}
+use Rattle.name.specs.declared.Action.the-variants.{Reset, Clear, Start, Pause, Empty, Trigger}
+use Rattle.command.specs.declared.SetArgument.{SetArgument}
+use Rattle.command.specs.declared.SetArgument.the-variants as set
+use Rattle.command.specs.declared.QueryArgument.{QueryArgument}
+use Rattle.command.specs.declared.QueryArgument.the-variants as query
+use Rattle.command.specs.declared.Kind.{Kind}
+use Rattle.command.specs.declared.Kind.the-variants.{Set, Query, Act}
+use Rattle.state.specs.State.{samplingOf, startMoving}
+use Rattle.state.specs.declared.Moving.{Moving}
+use Rattle.change.specs.Allows.{keepsLimit, valueAllowed, setAllowed, queryAllowed, allowsOf}
+use Rattle.change.specs.Change.{withPair, setIn, restoredBy, settingsAfter, storageBy, storageAfter, externalBy, externalAfter, movingAfter}
+use Rattle.demands.proofs.Sane.{Sane}
+use Rattle.courses.proofs.Storages.{Low, low-emptied, low-started, low-paused, low-triggered, reset-started, reset-paused, triggered-reset}
+
+-- the moving part m, that of the low course and that of the high one, under the settings x
+pub record Between (capacity : ℕ) (x : Settings) (m lo hi : Moving) : Type 0 where
+  pub kept : keepsAll x ≡ true
+  pub limit : detectionOf x (hi .external) ≤ hertz 102000
+  pub external : m .external ≤ hi .external
+  pub low : Low capacity (lo .storage) (m .storage)
+  pub high : isReset (hi .storage) ≡ true → isReset (m .storage) ≡ true
+
+-- ---- frequencies
+
+cond-mono : (t : Bool) (f a b : ℕ) → a ≤ b → cond t f a ≤ cond t f b
+cond-mono true f a b h = omega arith
+cond-mono false f a b h = h
+
+detection-mono : (x : Settings) (f g : ℕ) → f ≤ g → detectionOf x f ≤ detectionOf x g
+unfolding detectionOf inForce
+detection-mono x f g h = mul-le-mul-left (valueOf x harm) (cond-mono (eqb (valueOf x fmod) 1) (valueOf x freq) f g h)
+
+within-mono : (x : Settings) (f g : ℕ) → f ≤ g → withinLimit (detectionOf x g) ≡ true → withinLimit (detectionOf x f) ≡ true
+within-mono x f g h e = le-leb (detectionOf x f) (hertz 102000) (omega (arith, detection-mono x f g h, leb-true (detectionOf x g) (hertz 102000) e))
+
+stands-mono : (t : Bool) (a b : ℕ) → a ≤ b → t || not (above200 b) ≡ true → t || not (above200 a) ≡ true
+stands-mono true a b h e = refl
+stands-mono false a b h e =
+    let l = ltb-false (hertz 200) b (not-true (above200 b) e) in
+    rw (le-ltb (hertz 200) a (omega arith)) refl
+
+detection-other : (x : Settings) (e v f : ℕ) → (harm ≡ e → ⊥) → (fmod ≡ e → ⊥) → (freq ≡ e → ⊥) → detectionOf (withValue x e v) f ≡ detectionOf x f
+unfolding detectionOf inForce
+detection-other x e v f a b c =
+    rw (getD-set-other (x .values) e harm v 0 a, getD-set-other (x .values) e fmod v 0 b, getD-set-other (x .values) e freq v 0 c) refl
+
+-- ---- a setting
+
+module _ (x : Settings) (m hi : Moving) (e v : ℕ) where
+  -- what the high course is not refused, no other one is
+  value-allows : m .external ≤ hi .external → (isReset (hi .storage) ≡ true → isReset (m .storage) ≡ true) → valueAllowed x hi e v ≡ true
+      → valueAllowed x m e v ≡ true
+  unfolding valueAllowed keepsLimit
+  value-allows f r = by (eqb e freq) (eqb e harm) (eqb e fmod) (eqb e oflt) (eqb e send) where
+    limited : withinLimit (detectionOf (withValue x e v) (hi .external)) ≡ true → withinLimit (detectionOf (withValue x e v) (m .external)) ≡ true
+    limited = within-mono (withValue x e v) (m .external) (hi .external) f
+
+    by : (a b c d s : Bool)
+        → cond a (eqb (valueOf x fmod) 1 && withinLimit (detectionOf (withValue x e v) (hi .external)))
+        (cond b (withinLimit (detectionOf (withValue x e v) (hi .external)))
+        (cond c (withinLimit (detectionOf (withValue x e v) (hi .external)))
+        (cond d (timeConstantStands (detectionOf x (hi .external)) v) (cond s (isReset (hi .storage)) true)))) ≡ true
+        → cond a (eqb (valueOf x fmod) 1 && withinLimit (detectionOf (withValue x e v) (m .external)))
+        (cond b (withinLimit (detectionOf (withValue x e v) (m .external)))
+        (cond c (withinLimit (detectionOf (withValue x e v) (m .external)))
+        (cond d (timeConstantStands (detectionOf x (m .external)) v) (cond s (isReset (m .storage)) true)))) ≡ true
+    by true b c d s p =
+        let q = and-eq-true-iff (eqb (valueOf x fmod) 1) (withinLimit (detectionOf (withValue x e v) (hi .external))) .0 p in
+        and-eq-true-iff (eqb (valueOf x fmod) 1) (withinLimit (detectionOf (withValue x e v) (m .external))) .1 (q .0, limited (q .1))
+    by false true c d s p = limited p
+    by false false true d s p = limited p
+    by false false false true s p = stands-mono (leb v 13) _ _ (detection-mono x (m .external) (hi .external) f) p
+    by false false false false true p = r p
+    by false false false false false p = refl
+
+  value-limit : detectionOf x (hi .external) ≤ hertz 102000 → valueAllowed x hi e v ≡ true → detectionOf (withValue x e v) (hi .external) ≤ hertz 102000
+  unfolding valueAllowed keepsLimit
+  value-limit h =
+      by (eqb e freq) (eqb e harm) (eqb e fmod)
+      (cond (eqb e oflt) (timeConstantStands (detectionOf x (hi .external)) v) (cond (eqb e send) (isReset (hi .storage)) true)) refl refl refl
+    where
+      by : (a b c rest : Bool) → eqb e freq ≡ a → eqb e harm ≡ b → eqb e fmod ≡ c
+          → cond a (eqb (valueOf x fmod) 1 && withinLimit (detectionOf (withValue x e v) (hi .external)))
+          (cond b (withinLimit (detectionOf (withValue x e v) (hi .external)))
+          (cond c (withinLimit (detectionOf (withValue x e v) (hi .external))) rest)) ≡ true
+          → detectionOf (withValue x e v) (hi .external) ≤ hertz 102000
+      by true b c rest f g i p =
+          leb-true _ _ (and-eq-true-iff (eqb (valueOf x fmod) 1) (withinLimit (detectionOf (withValue x e v) (hi .external))) .0 p .1)
+      by false true c rest f g i p = leb-true _ _ p
+      by false false true rest f g i p = leb-true _ _ p
+      by false false false rest f g i p =
+          rw (detection-other x e v (hi .external) (λ q. eqb-false e harm g (sym q)) (λ q. eqb-false e fmod i (sym q)) (λ q. eqb-false e freq f (sym q))) h
+
+-- ---- commands
+
+-- a command that neither the low nor the high course refuses
+abbrev pub Goes : ℕ → Settings → (m lo hi : Moving) → Kind → Type 0
+Goes capacity x m lo hi kind =
+    (allowsOf x m kind ≡ true)
+    × Between capacity (settingsAfter kind x) (movingAfter kind x m capacity) (movingAfter kind x lo capacity) (movingAfter kind x hi capacity)
+
+start-facts : (keepsAll startSettings ≡ true) × (withinLimit (detectionOf startSettings externalStart) ≡ true)
+unfolding allowedOf
+start-facts =
+    let p = and-eq-true-iff (keepsAll startSettings) _ .0 start-allowed in
+    let q = and-eq-true-iff (frequencyInRange externalStart) _ .0 (p .1) in
+    (p .0, and-eq-true-iff (withinLimit (detectionOf startSettings externalStart)) _ .0 (q .1) .0)
+
+start-between : (capacity : ℕ) → Between capacity startSettings startMoving startMoving startMoving
+start-between capacity =
+    record { kept = start-facts .0; limit = leb-true _ _ (start-facts .1); external = omega arith; low = low-emptied capacity; high = λ e. e }
+
+-- *RST in any state
+pub reset-goes : (capacity : ℕ) (x : Settings) (m lo hi : Moving) → Goes capacity x m lo hi (Act Reset)
+unfolding allowsOf settingsAfter restoredBy movingAfter externalAfter externalBy storageAfter storageBy
+reset-goes capacity x m lo hi = (refl, start-between capacity)
+
+module _ (capacity : ℕ) (x : Settings) (m lo hi : Moving) (k : Between capacity x m lo hi) where
+  -- other settings, at which the high course keeps the limit
+  with-settings : (y : Settings) → keepsAll y ≡ true → detectionOf y (hi .external) ≤ hertz 102000 → Between capacity y m lo hi
+  with-settings y p q = record { kept = p; limit = q; external = k .external; low = k .low; high = k .high }
+
+  with-storage : (m′ lo′ hi′ : Storage) → Low capacity lo′ m′ → (isReset hi′ ≡ true → isReset m′ ≡ true)
+      → Between capacity x (record { external = m .external; storage = m′ }) (record { external = lo .external; storage = lo′ })
+      (record { external = hi .external; storage = hi′ })
+  with-storage m′ lo′ hi′ l r = record { kept = k .kept; limit = k .limit; external = k .external; low = l; high = r }
+
+  set-goes : (a : SetArgument) → Sane (Set a) → allowsOf x hi (Set a) ≡ true → Goes capacity x m lo hi (Set a)
+  unfolding allowsOf setAllowed settingsAfter setIn withPair movingAfter externalAfter storageAfter
+  set-goes (set.Value e v) s h = (
+    value-allows x m hi e v (k .external) (k .high) h,
+    with-settings (withValue x e v) (with-keeps x e v (k .kept) s) (value-limit x m hi e v (k .limit) h),
+  )
+  set-goes (set.Pair e v w) s h = (
+    refl,
+    with-settings (withValue (withValue x e v) (behind e) w)
+        (with-keeps (withValue x e v) (behind e) w (with-keeps x e v (k .kept) (s .first)) (s .second))
+        (rw (
+          detection-other (withValue x e v) (behind e) w (hi .external) (λ q. omega arith) (λ q. omega arith) (λ q. omega arith),
+          detection-other x e v (hi .external) (λ q. omega arith) (λ q. omega arith) (λ q. omega arith),
+        )
+        (k .limit)),
+  )
+  set-goes (set.Enable r v) s h = (refl, k)
+  set-goes (set.EnableBit r i v) s h = (refl, k)
+
+  query-goes : (q : QueryArgument) → allowsOf x lo (Query q) ≡ true → Goes capacity x m lo hi (Query q)
+  unfolding allowsOf queryAllowed settingsAfter movingAfter externalAfter storageAfter holdsOf
+  query-goes (query.Trace form t bin count) h =
+      (le-leb (bin + count) (m .storage .held) (omega (arith, leb-true (bin + count) (lo .storage .held) h, k .low .fewer)), k)
+  query-goes (query.Value e) h = (refl, k)
+  query-goes (query.Pair e) h = (refl, k)
+  query-goes (query.Enable r) h = (refl, k)
+  query-goes (query.EnableBit r i) h = (refl, k)
+  query-goes (query.Status r) h = (refl, k)
+  query-goes (query.StatusBit r i) h = (refl, k)
+  query-goes query.Identity h = (refl, k)
+  query-goes query.Points h = (refl, k)
+
+  readied : (t : Bool) → isReset (cond t (startedOf (hi .storage)) (hi .storage)) ≡ true → isReset (cond t (startedOf (m .storage)) (m .storage)) ≡ true
+  readied true e = absurd (false≢true (sym (reset-started (hi .storage)) ∙ e))
+  readied false e = k .high e
+
+  triggered : (by : Sampling) → isReset (triggeredOf (hi .storage) capacity by .storage) ≡ true → isReset (triggeredOf (m .storage) capacity by .storage) ≡ true
+  unfolding readiedOf
+  triggered by e =
+      triggered-reset capacity by (m .storage)
+      ∙ readied (eqb (by .start) triggerStarts) (sym (triggered-reset capacity by (hi .storage)) ∙ e)
+
+  act-goes : (a : Action) → Goes capacity x m lo hi (Act a)
+  unfolding allowsOf settingsAfter restoredBy movingAfter externalAfter externalBy storageAfter storageBy
+  act-goes Reset = (refl, start-between capacity)
+  act-goes Clear = (refl, k)
+  act-goes Start = (
+    refl,
+    with-storage (startedOf (m .storage)) (startedOf (lo .storage)) (startedOf (hi .storage)) (low-started capacity (lo .storage) (m .storage) (k .low))
+        (λ e. absurd (false≢true (sym (reset-started (hi .storage)) ∙ e))),
+  )
+  act-goes Pause = (
+    refl,
+    with-storage (pausedOf (m .storage)) (pausedOf (lo .storage)) (pausedOf (hi .storage)) (low-paused capacity (lo .storage) (m .storage) (k .low))
+        (λ e. reset-paused (m .storage) ∙ k .high (sym (reset-paused (hi .storage)) ∙ e)),
+  )
+  act-goes Empty = (refl, with-storage emptiedStorage emptiedStorage emptiedStorage (low-emptied capacity) (λ e. e))
+  act-goes Trigger = (
+    refl,
+    with-storage (triggeredOf (m .storage) capacity (samplingOf x) .storage) (triggeredOf (lo .storage) capacity (samplingOf x) .storage)
+        (triggeredOf (hi .storage) capacity (samplingOf x) .storage)
+        (low-triggered capacity (samplingOf x) (lo .storage) (m .storage) (k .low))
+        (triggered (samplingOf x)),
+  )
+
+  pub command-goes : (kind : Kind) → Sane kind → allowsOf x lo kind ≡ true → allowsOf x hi kind ≡ true → Goes capacity x m lo hi kind
+  command-goes (Set a) s l h = set-goes a s h
+  command-goes (Query q) s l h = query-goes q l
+  command-goes (Act a) s l h = act-goes a

@@ -1,0 +1,182 @@
+-- Before a line: the high course measures the highest frequency that can be taken and has a trigger; then no event leads out from between the two.
+use Prim.Native.Nat.{ℕ, _*_, _/_, _≤_}
+use native.Mathlib.Omega.{arith}
+use native.Mathlib.Nat.{mul-div-le, le-div-iff-mul-le, mul-comm}
+use mathlib.Core.Bool.{Bool, true, false, cond, and-eq-true-iff, false≢true}
+use mathlib.Core.Path.{_≡_, refl, sym, _∙_}
+use mathlib.Core.List.{List}
+use lib.Dec.{leb, eqb}
+use borrow.Author.Tests.{leb-true}
+use Rattle.settings.specs.Table.{entries, table, fmod, harm, rowOf, tstr, valueOf}
+use Rattle.settings.specs.Frequency.{hertz, inForce, detectionOf, frequencyInRange}
+use Rattle.settings.specs.Allowed.{keeps, keepsAll}
+use Rattle.settings.specs.declared.Settings.{Settings}
+use Rattle.settings.proofs.Every.{every-at}
+use Rattle.storage.specs.Storage.{triggerStarts, isReset, startedOf, readiedOf, triggeredOf, tickedOf}
+use Rattle.storage.specs.declared.Storage.{Storage}
+use Rattle.state.specs.State.{withRegisters, samplingOf, detectionNow, crossedFrom}
+use Rattle.state.specs.Storing.{triggerOf, tickOf, sampledBy}
+use Rattle.state.specs.declared.Moving.{Moving}
+use Rattle.state.specs.declared.State.{State}
+use Rattle.event.specs.Event.{withLatest, legalPair, pairTaken, takesFrequency, withExternal, notTaken, measuredBy, bitsRaised, sampledIn, eventOf, done, refused}
+use Rattle.event.specs.declared.Event.{Event}
+use Rattle.event.specs.declared.Event.the-variants.{Latest, Tick, Trigger, Measured, Raised}
+use Rattle.status.specs.Status.{withLia, mayRaise}
+use Rattle.script.specs.Check.{measuredHigh, triggeredHigh}
+use Rattle.courses.proofs.Alike.{Alike, alike-then, alike-value, alike-sampling, crossed-settings, crossed-moving}
+use Rattle.courses.proofs.Storages.{Low, low-ticked, low-event, reset-started, ticked-reset, triggered-reset}
+use Rattle.courses.proofs.Between.{Between}
+
+-- the high course has the highest frequency that can be taken, and with TSTR 1 it has begun
+pub record Ready (x : Settings) (hi : Moving) : Type 0 where
+  pub highest : eqb (valueOf x fmod) 1 ≡ false → (f : ℕ) → valueOf x harm * f ≤ hertz 102000 → f ≤ hi .external
+  pub begun : eqb (valueOf x tstr) triggerStarts ≡ true → isReset (hi .storage) ≡ false
+
+-- HARM is 1 to 19999
+pub harm-kept : (x : Settings) → keepsAll x ≡ true → (1 ≤ valueOf x harm) × (valueOf x harm ≤ 19999)
+unfolding keepsAll keeps rowOf table
+harm-kept x k =
+    let p = every-at (λ e. keeps e (valueOf x e)) entries k harm (omega arith) in
+    let q = and-eq-true-iff (leb 1 (valueOf x harm)) _ .0 p in
+    (leb-true 1 (valueOf x harm) (q .0), leb-true (valueOf x harm) 19999 (and-eq-true-iff (leb (valueOf x harm) 19999) _ .0 (q .1) .0))
+
+below-highest : (h f : ℕ) → 1 ≤ h → h * f ≤ hertz 102000 → f ≤ hertz 102000 / h
+below-highest h f a p = (le-div-iff-mul-le a) .1 (rw (mul-comm h f) at p)
+
+-- ---- the high course
+
+module _ (capacity : ℕ) (x : Settings) (m lo hi : Moving) (k : Between capacity x m lo hi) where
+  measured : Between capacity x m lo (measuredHigh x hi)
+      × (eqb (valueOf x fmod) 1 ≡ false → (f : ℕ) → valueOf x harm * f ≤ hertz 102000 → f ≤ measuredHigh x hi .external)
+  unfolding measuredHigh detectionOf inForce
+  measured = by (eqb (valueOf x fmod) 1) refl where
+    raised : Moving
+    raised = record { external = hertz 102000 / valueOf x harm; storage = hi .storage }
+
+    by : (t : Bool) → eqb (valueOf x fmod) 1 ≡ t
+        → Between capacity x m lo (cond t hi raised)
+        × (t ≡ false → (f : ℕ) → valueOf x harm * f ≤ hertz 102000 → f ≤ cond t hi raised .external)
+    by true e = (k, λ z. absurd (false≢true (sym z)))
+    by false e =
+        let old : valueOf x harm * hi .external ≤ hertz 102000 = rw e at (k .limit) in
+        let one = harm-kept x (k .kept) .0 in
+        let over = below-highest (valueOf x harm) (hi .external) one old in (
+          record {
+            kept = k .kept;
+            limit = rw e (mul-div-le (hertz 102000) (valueOf x harm));
+            external = omega (arith, k .external, over);
+            low = k .low;
+            high = k .high;
+          },
+          λ z f p. below-highest (valueOf x harm) f one p,
+        )
+
+  readied-high : (h : Moving) (t : Bool) → (isReset (h .storage) ≡ true → isReset (m .storage) ≡ true)
+      → isReset (cond t (startedOf (h .storage)) (h .storage)) ≡ true → isReset (m .storage) ≡ true
+  readied-high h true r e = absurd (false≢true (sym (reset-started (h .storage)) ∙ e))
+  readied-high h false r e = r e
+
+  readied-begun : (h : Moving) (t : Bool) → t ≡ true → isReset (cond t (startedOf (h .storage)) (h .storage)) ≡ false
+  readied-begun h true e = reset-started (h .storage)
+  readied-begun h false e = absurd (false≢true e)
+
+  pub gap-ready : Between capacity x m lo (triggeredHigh capacity x (measuredHigh x hi)) × Ready x (triggeredHigh capacity x (measuredHigh x hi))
+  unfolding triggeredHigh readiedOf samplingOf
+  gap-ready =
+      let h = measuredHigh x hi in
+      let r = measured .0 in
+      let reset = triggered-reset capacity (samplingOf x) (h .storage) in (
+        record {
+          kept = r .kept;
+          limit = r .limit;
+          external = r .external;
+          low = r .low;
+          high = λ e. readied-high h (eqb (valueOf x tstr) triggerStarts) (r .high) (sym reset ∙ e);
+        },
+        record { highest = measured .1; begun = λ e. reset ∙ readied-begun h (eqb (valueOf x tstr) triggerStarts) e },
+      )
+
+-- ---- any course
+
+-- a state of the capacity, with settings alike and a moving part between the two
+pub record Within (capacity : ℕ) (x : Settings) (lo hi : Moving) (s : State) : Type 0 where
+  pub same : s .unit .capacity ≡ capacity
+  pub alike : Alike (s .settings) x
+  pub between : Between capacity x (s .moving) lo hi
+
+module _ (capacity : ℕ) (x : Settings) (lo hi : Moving) (ready : Ready x hi) (s : State) (k : Within capacity x lo hi s) where
+  with-storage : (t : Storage) → Low capacity (lo .storage) t → (isReset (hi .storage) ≡ true → isReset t ≡ true)
+      → Between capacity x (record { external = s .moving .external; storage = t }) lo hi
+  with-storage t l r =
+      record { kept = k .between .kept; limit = k .between .limit; external = k .between .external; low = l; high = r }
+
+  tick-within : (one two : List ℕ) → Within capacity x lo hi (eventOf Tick s one two .state)
+  unfolding eventOf sampledIn sampledBy tickOf
+  tick-within one two =
+      let by = samplingOf (s .settings) in
+      record {
+        same = k .same;
+        alike = k .alike;
+        between =
+            rw (k .same)
+            (with-storage (tickedOf (s .moving .storage) capacity by .storage) (low-ticked capacity by (lo .storage) (s .moving .storage) (k .between .low))
+            (λ e. ticked-reset capacity by (s .moving .storage) ∙ k .between .high e));
+      }
+
+  readied-other : (t : Bool) → (t ≡ true → isReset (hi .storage) ≡ false) → isReset (hi .storage) ≡ true
+      → isReset (cond t (startedOf (s .moving .storage)) (s .moving .storage)) ≡ true
+  readied-other true b e = absurd (false≢true (sym (b refl) ∙ e))
+  readied-other false b e = k .between .high e
+
+  trigger-within : (one two : List ℕ) → Within capacity x lo hi (eventOf Trigger s one two .state)
+  unfolding eventOf sampledIn sampledBy triggerOf
+  trigger-within one two =
+      let by = samplingOf x in
+      record {
+        same = k .same;
+        alike = k .alike;
+        between =
+            rw (k .same, alike-sampling (s .settings) x (k .alike))
+            (with-storage (triggeredOf (s .moving .storage) capacity by .storage) (low-event capacity by (lo .storage) (s .moving .storage) (k .between .low))
+            (λ e. triggered-reset capacity by (s .moving .storage) ∙ begun e));
+      }
+    where
+      begun : isReset (hi .storage) ≡ true → isReset (readiedOf (s .moving .storage) (samplingOf x)) ≡ true
+      begun e = unfold readiedOf samplingOf in readied-other (eqb (valueOf x tstr) triggerStarts) (ready .begun) e
+
+  measured-within : (f : ℕ) → Within capacity x lo hi (measuredBy f s)
+  unfolding measuredBy
+  measured-within f = by (eqb (valueOf (s .settings) fmod) 1) (takesFrequency s f) refl refl where
+    taken : eqb (valueOf (s .settings) fmod) 1 ≡ false → takesFrequency s f ≡ true → f ≤ hi .external
+    taken e t =
+        ready .highest (rw (← alike-value (k .alike) fmod (λ q. omega arith)) e) f
+        (rw (← alike-value (k .alike) harm (λ q. omega arith))
+        (leb-true (valueOf (s .settings) harm * f) (hertz 102000) (unfold takesFrequency in and-eq-true-iff (frequencyInRange f) _ .0 t .1)))
+
+    by : (a b : Bool) → eqb (valueOf (s .settings) fmod) 1 ≡ a → takesFrequency s f ≡ b
+        → Within capacity x lo hi
+        (cond a s (cond b (crossedFrom (detectionNow s) (withExternal f s)) (withRegisters (withLia (s .registers) notTaken) s)))
+    by true b p q = k
+    by false true p q =
+        record {
+          same = unfold crossedFrom withExternal in k .same;
+          alike = alike-then (crossed-settings (detectionNow s) (withExternal f s)) (unfold withExternal in k .alike);
+          between =
+              rw (crossed-moving (detectionNow s) (withExternal f s))
+              (unfold withExternal in
+              record { kept = k .between .kept; limit = k .between .limit; external = taken p q; low = k .between .low; high = k .between .high });
+        }
+    by false false p q = record { same = k .same; alike = k .alike; between = k .between }
+
+  quiet-within : (b : Bool) (t : State) → Within capacity x lo hi t → Within capacity x lo hi (cond b (done t) (refused s) .state)
+  quiet-within true t w = w
+  quiet-within false t w = k
+
+  pub event-within : (e : Event) (one two : List ℕ) → Within capacity x lo hi (eventOf e s one two .state)
+  event-within (Latest w v) one two =
+      unfold eventOf pairTaken withLatest in quiet-within (legalPair w v) _ (record { same = k .same; alike = k .alike; between = k .between })
+  event-within Tick one two = tick-within one two
+  event-within Trigger one two = trigger-within one two
+  event-within (Measured f) one two = unfold eventOf in measured-within f
+  event-within (Raised lia errors) one two =
+      unfold eventOf bitsRaised in quiet-within (mayRaise lia errors) _ (record { same = k .same; alike = k .alike; between = k .between })

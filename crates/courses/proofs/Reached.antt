@@ -1,0 +1,135 @@
+-- A course that is refused where the check stops.
+use Prim.Native.Nat.{ℕ, zero, suc}
+use mathlib.Core.Bool.{Bool, true, false, cond, and-eq-true-iff}
+use mathlib.Core.Path.{_≡_, refl, sym, _∙_}
+use mathlib.Core.Logic.{_≢_}
+use mathlib.Core.List.{List, [], _∷_}
+use Rattle.refusal.specs.declared.Refusal.{Refusal}
+use Rattle.refusal.specs.declared.Refusal.the-variants.{NoReset, LongScriptLine, BadState}
+use Rattle.refusal.specs.declared.Outcome.{Outcome}
+use Rattle.refusal.specs.declared.Outcome.the-variants as outcome
+use Rattle.settings.specs.Allowed.{keepsAll}
+use Rattle.state.specs.Allowed.{allowedState}
+use Rattle.event.specs.Event.{eventOf}
+use Rattle.event.specs.declared.Event.the-variants.{Trigger, Measured}
+use Rattle.event.proofs.Crossed.{sound}
+use Rattle.line.specs.Line.{startLine, textsOf, lineOf}
+use Rattle.line.specs.declared.Answer.the-variants.{Passed, Refused}
+use Rattle.lockin.specs.Calls.{allowedModule, guardOf}
+use Rattle.script.specs.Check.{gapOf, measuredHigh, textsAnswer, textsAfter, tooLong}
+use Rattle.script.specs.declared.Both.{Both}
+use Rattle.courses.specs.Course.{World, lineIn, afterLine, afterEvent, afterEvents, Gap, Gaps, after, crowded, Roomy, answerOf}
+use Rattle.courses.proofs.Alike.{Alike}
+use Rattle.courses.proofs.Found as found
+use Rattle.courses.proofs.Found.{stop, lineAnswer, not-passed, not-done, found-here, found-later, end-stop}
+use Rattle.courses.proofs.Sound.{Open, line-open, event-open, event-is, line-short, events-open}
+use Rattle.courses.proofs.Witness.{Side, low, high, At, at-run, run-refuses, highest, eventsOf, measured-at, triggered-at}
+use Rattle.courses.proofs.Rooms.{roomFor, room-enough}
+
+open-allowed : (w : World) → Open w → allowedModule (w .core) ≡ true
+unfolding guardOf
+open-allowed w = by (allowedModule (w .core)) _ where
+  by : (t : Bool) (o : Outcome) → cond t o (outcome.Refused BadState) ≡ outcome.Done → t ≡ true
+  by true o e = refl
+  by false o e = not-done BadState e
+
+open-kept : (w : World) → Open w → keepsAll (w .core .state .settings) ≡ true
+unfolding allowedModule
+open-kept w o = sound (w .core .state) (and-eq-true-iff (allowedState (w .core .state)) _ .0 (open-allowed w o) .0) .values
+
+-- ---- before a line
+
+at-gap : (d : Side) (capacity : ℕ) (b : Both) (w : World) → Open w → At d capacity b (w .core .state)
+    → At d capacity (gapOf capacity b) (afterEvents (eventsOf d b) w .core .state)
+unfolding eventsOf afterEvents gapOf
+at-gap low capacity b w o i = record { same = i .same; alike = i .alike; moving = i .moving }
+at-gap high capacity b w o i =
+    let x = b .settings in
+    let s = w .core .state in
+    let v = afterEvent (Measured (highest x)) w in
+    let m = measured-at x s (i .alike) (open-kept w o) (b .high) (i .moving) in
+    let e = event-is w o (Measured (highest x)) in
+    let p : (v .core .state .unit ≡ s .unit) × Alike (v .core .state .settings) x × (v .core .state .moving ≡ measuredHigh x (b .high)) =
+    rw e (unfold eventOf in m)
+    in
+    let c : v .core .state .unit .capacity ≡ capacity = rw (p .0) (i .same) in
+    let t = triggered-at capacity x (v .core .state) (measuredHigh x (b .high)) (v .one) (v .two) c (p .1) (p .2) in
+    let f = event-is v (event-open w o (Measured (highest x))) Trigger in
+    record { same = rw (f, t .0) c; alike = rw f (t .1); moving = rw f (t .2) }
+
+-- ---- lines
+
+module _ (capacity : ℕ) (b : Both) (l : List ℕ) where
+  -- the line leaves the course of a side where the check goes, or is refused in it
+  abbrev Kept : Side → Type 0
+  Kept d =
+      (w : World) → Open w → At d capacity b (w .core .state) → (room : ℕ) → crowded room l w ≡ false
+      → At d capacity (textsAfter capacity (textsOf l) b) (afterLine room l w .core .state)
+
+  abbrev Refuses : Side → Refusal → ℕ → Type 0
+  Refuses d r p =
+      (w : World) → Open w → At d capacity b (w .core .state) → (room : ℕ) → crowded room l w ≡ false → lineIn room l w .told .answer ≡ Refused r p
+
+  line-at : (d : Side) → lineAnswer capacity l b ≡ Passed → Kept d
+  unfolding lineAnswer lineOf
+  line-at d = by (tooLong l) refl where
+    by : (t : Bool) → tooLong l ≡ t → cond t (Refused LongScriptLine 0) (textsAnswer capacity 1 (textsOf l) b) ≡ Passed
+        → Kept d
+    by true e f w o i room c = not-passed LongScriptLine 0 f
+    by false e f w o i room c =
+        let s = line-short w o room l e in
+        let n : lineOf room l (w .core .state) (w .one) (w .two) .dropped ≡ false = sym (s .2) ∙ c in
+        rw (s .1) (at-run d capacity room (textsOf l) (startLine (w .core .state) (w .one) (w .two)) b 1 i n f)
+
+  line-refuses : (r : Refusal) (p : ℕ) → lineAnswer capacity l b ≡ Refused r p → r ≢ NoReset → r ≢ LongScriptLine
+      → (d : Side) × Refuses d r p
+  unfolding lineAnswer lineOf
+  line-refuses r p = by (tooLong l) refl where
+    by : (t : Bool) → tooLong l ≡ t → cond t (Refused LongScriptLine 0) (textsAnswer capacity 1 (textsOf l) b) ≡ Refused r p → r ≢ NoReset → r ≢ LongScriptLine
+        → (d : Side) × Refuses d r p
+    by true e f x y = let z : LongScriptLine ≡ r = cc in absurd (y (sym z))
+    by false e f x y =
+        let k = run-refuses capacity b 0 (textsOf l) r p f x in (
+          k .0,
+          λ w o i room c.
+              let s = line-short w o room l e in
+              let n : lineOf room l (w .core .state) (w .one) (w .two) .dropped ≡ false = sym (s .2) ∙ c in
+              s .0 ∙ ((k .1) room (startLine (w .core .state) (w .one) (w .two)) refl refl i n),
+        )
+
+-- ---- a whole course of that side
+
+abbrev gapFor : Side → Both → List ℕ → World → Gap
+gapFor d b l w = record { events = eventsOf d b; room = roomFor l (afterEvents (eventsOf d b) w) }
+
+pub gapsFor : Side → ℕ → (ls : List (List ℕ)) → Both → World → Gaps ls
+gapsFor d capacity [] b w = tt
+gapsFor d capacity (l ∷ ls) b w = (gapFor d b l w, gapsFor d capacity ls (found.afterLine capacity l b) (after (gapFor d b l w) l w))
+
+pub gaps-roomy : (d : Side) (capacity : ℕ) (ls : List (List ℕ)) (b : Both) (w : World) → Roomy ls (gapsFor d capacity ls b w) w
+unfolding gapsFor
+gaps-roomy d capacity [] b w = tt
+gaps-roomy d capacity (l ∷ ls) b w =
+    (room-enough l (afterEvents (eventsOf d b) w), gaps-roomy d capacity ls (found.afterLine capacity l b) (after (gapFor d b l w) l w))
+
+pub reached : (capacity : ℕ) (ls : List (List ℕ)) (b : Both) (k p : ℕ) (r : Refusal) → found.found capacity ls b ≡ stop k p r → r ≢ NoReset → r ≢ LongScriptLine
+    → (d : Side) × ((w : World) → Open w → At d capacity b (w .core .state) → answerOf ls (gapsFor d capacity ls b w) w k ≡ Refused r p)
+unfolding found.found answerOf gapsFor
+reached capacity [] b k p r e x y = end-stop (b .begun) k p r e
+reached capacity (l ∷ ls) b zero p r e x y =
+    let f = line-refuses capacity (gapOf capacity b) l r p (found-here _ _ p r e) x y in (
+      f .0,
+      λ w o i.
+          let v = afterEvents (eventsOf (f .0) b) w in
+          (f .1) v (events-open (eventsOf (f .0) b) w o) (at-gap (f .0) capacity b w o i) (roomFor l v) (room-enough l v),
+    )
+reached capacity (l ∷ ls) b (suc k) p r e x y =
+    let q = found-later (lineAnswer capacity l (gapOf capacity b)) (found.found capacity ls (found.afterLine capacity l b)) k p r e in
+    let f = reached capacity ls (found.afterLine capacity l b) k p r (q .1) x y in (
+      f .0,
+      λ w o i.
+          let v = afterEvents (eventsOf (f .0) b) w in
+          let u = events-open (eventsOf (f .0) b) w o in
+          (f .1) (afterLine (roomFor l v) l v) (line-open v u (roomFor l v) l)
+          (line-at capacity (gapOf capacity b) l (f .0) (q .0) v u (at-gap (f .0) capacity b w o i) (roomFor l v) (room-enough l v)),
+    )

@@ -1,0 +1,445 @@
+-- Demand 3, proved.
+use Prim.Native.Nat.{ℕ, zero, suc, _+_, _≤_, _<_}
+use native.Mathlib.Omega.{arith}
+use mathlib.Core.Bool.{Bool, true, false, false≢true}
+use mathlib.Core.Path.{_≡_, refl, sym, ap, _∙_}
+use mathlib.Core.Logic.{_≢_, _↔_}
+use mathlib.Core.List.{List, [], _∷_}
+use lib.Dec.{leb, ltb}
+use lib.ListN.{getD, replicate, length-replicate}
+use borrow.Author.Tests.{eq-eqb, ltb-true, ltb-false, leb-true, leb-false}
+use Rattle.refusal.specs.declared.Refusal.{Refusal}
+use Rattle.refusal.specs.declared.Refusal.the-variants.{Malformed, OutOfRange, NotAllowed, NoRoom, LongLine, BadEvent, NoReset, LongScriptLine, BadTraces, BadStart, BadState}
+use Rattle.refusal.specs.declared.Outcome.the-variants as outcome
+use Rattle.command.specs.declared.Parsed.{Parsed}
+use Rattle.state.specs.State.{startState}
+use Rattle.line.specs.declared.Answer.the-variants.{Passed, Refused}
+use Rattle.lockin.specs.Start.{unitKnown, tracesFit, freshModule, startOf}
+use Rattle.lockin.specs.Calls.{guardOf}
+use Rattle.script.specs.Check.{tooLong, linesOf, capacityFits, startBoth, checkOf}
+use Rattle.script.specs.declared.Verdict.{Verdict}
+use Rattle.script.specs.declared.Verdict.the-variants.{Fine, No}
+use Rattle.demands.proofs.StaysAllowed.{stays-allowed}
+use Rattle.courses.specs.Course.{World, before, after, Gaps, Course, answerOf, answers}
+use Rattle.courses.specs.Demand3.{lineAt, Short, first, leadOf, isReset, begins, AllPass, FirstRefused, NotBegun, other, nothing, LongAt, Demand3}
+use Rattle.courses.specs.Demand3 as demand
+use Rattle.courses.proofs.Alike.{alike-self}
+use Rattle.courses.proofs.Found as found
+use Rattle.courses.proofs.Found.{Found, fine, none, stop, numbered, verdict-is, never, not-passed}
+use Rattle.courses.proofs.Commands.{Sim}
+use Rattle.courses.proofs.Sound.{Open, line-open, line-long, events-open, script-fine, script-before, script-earlier}
+use Rattle.courses.proofs.Witness.{Side, low, high, At}
+use Rattle.courses.proofs.Reached.{gapsFor, gaps-roomy, reached}
+use Rattle.courses.proofs.Long.{numberOf, short-fine, short-none, short-before, short-here, long-here, stop-number}
+use Rattle.courses.proofs.Led.{seven-eight, led-fine, led-none, led-seven, led-other, led-before}
+
+-- ---- any course, where the check begins
+
+module _ (capacity : ℕ) (lines : List (List ℕ)) (k : Course capacity lines) where
+  course-open : Open (k .start)
+  unfolding guardOf
+  course-open = rw (k .allowed, k .told, k .first, k .second, eq-eqb capacity capacity refl) refl
+
+  course-sim : Sim capacity startBoth (k .start .core .state)
+  course-sim = record { same = k .told; begun = λ e. absurd (false≢true e) }
+
+-- ---- the check's two courses, from a fresh module
+
+fresh : ℕ → World
+fresh capacity = record { core = startOf 0 1 capacity capacity .after; one = replicate capacity 0; two = replicate capacity 0 }
+
+module _ (capacity : ℕ) (fits : capacityFits capacity ≡ true) where
+  start-is : startOf 0 1 capacity capacity
+      ≡ record { after = freshModule (record { serial = 0; port = 1; capacity = capacity }); outcome = outcome.Done }
+  unfolding startOf unitKnown tracesFit
+  start-is = rw (eq-eqb capacity capacity refl, fits) refl
+
+  fresh-at : (d : Side) → At d capacity startBoth (fresh capacity .core .state)
+  unfolding fresh
+  fresh-at low = rw start-is (unfold freshModule startState in record { same = refl; alike = alike-self _; moving = refl })
+  fresh-at high = rw start-is (unfold freshModule startState in record { same = refl; alike = alike-self _; moving = refl })
+
+  course-of : (d : Side) (lines : List (List ℕ)) → Course capacity lines
+  unfolding fresh
+  course-of d lines =
+      record {
+        start = fresh capacity;
+        allowed = stays-allowed .start 0 1 capacity capacity;
+        told = fresh-at d .same;
+        first = length-replicate capacity 0;
+        second = length-replicate capacity 0;
+        gaps = gapsFor d capacity lines startBoth (fresh capacity);
+        rooms = gaps-roomy d capacity lines startBoth (fresh capacity);
+      }
+
+-- ---- cases
+
+bool-split : (t : Bool) (Goal : Type 0) → (t ≡ true → Goal) → (t ≡ false → Goal) → Goal
+bool-split true G f g = f refl
+bool-split false G f g = g refl
+
+found-split : (v : Found) (Goal : Type 0) → (v ≡ fine → Goal) → (v ≡ none → Goal) → ((i p : ℕ) (r : Refusal) → v ≡ stop i p r → Goal) → Goal
+found-split fine G f g h = f refl
+found-split none G f g h = g refl
+found-split (stop i p r) G f g h = h i p r refl
+
+apart : (r s : Refusal) → (numberOf r ≡ numberOf s → ⊥) → r ≢ s
+apart r s n e = n (ap numberOf e)
+
+-- 7, 8, or another
+refusal-split : (r : Refusal) (Goal : Type 0) → (r ≡ NoReset → Goal) → (r ≡ LongScriptLine → Goal) → (r ≢ NoReset → r ≢ LongScriptLine → Goal) → Goal
+refusal-split Malformed G f g h = h (apart Malformed NoReset (λ e. omega arith)) (apart Malformed LongScriptLine (λ e. omega arith))
+refusal-split OutOfRange G f g h = h (apart OutOfRange NoReset (λ e. omega arith)) (apart OutOfRange LongScriptLine (λ e. omega arith))
+refusal-split NotAllowed G f g h = h (apart NotAllowed NoReset (λ e. omega arith)) (apart NotAllowed LongScriptLine (λ e. omega arith))
+refusal-split NoRoom G f g h = h (apart NoRoom NoReset (λ e. omega arith)) (apart NoRoom LongScriptLine (λ e. omega arith))
+refusal-split LongLine G f g h = h (apart LongLine NoReset (λ e. omega arith)) (apart LongLine LongScriptLine (λ e. omega arith))
+refusal-split BadEvent G f g h = h (apart BadEvent NoReset (λ e. omega arith)) (apart BadEvent LongScriptLine (λ e. omega arith))
+refusal-split NoReset G f g h = f refl
+refusal-split LongScriptLine G f g h = g refl
+refusal-split BadTraces G f g h = h (apart BadTraces NoReset (λ e. omega arith)) (apart BadTraces LongScriptLine (λ e. omega arith))
+refusal-split BadStart G f g h = h (apart BadStart NoReset (λ e. omega arith)) (apart BadStart LongScriptLine (λ e. omega arith))
+refusal-split BadState G f g h = h (apart BadState NoReset (λ e. omega arith)) (apart BadState LongScriptLine (λ e. omega arith))
+
+order-split : (i j : ℕ) (Goal : Type 0) → (i < j → Goal) → (i ≡ j → Goal) → (j < i → Goal) → Goal
+order-split i j G f g h =
+    bool-split (ltb i j) G (λ e. f (ltb-true i j e))
+    (λ e. bool-split (ltb j i) G (λ d. h (ltb-true j i d)) (λ d. g (omega (arith, ltb-false i j e, ltb-false j i d))))
+
+-- ---- what the check says, by what it finds
+
+check-fits : (capacity : ℕ) (script : List ℕ) → capacityFits capacity ≡ true → checkOf capacity script ≡ numbered 1 (found.found capacity (linesOf script) startBoth)
+unfolding checkOf
+check-fits capacity script e = rw e (verdict-is capacity 1 (linesOf script) startBoth)
+
+check-unfit : (capacity : ℕ) (script : List ℕ) → capacityFits capacity ≡ false → checkOf capacity script ≡ No 0 0 BadTraces
+unfolding checkOf
+check-unfit capacity script e = rw e refl
+
+numbered-fine : (v : Found) → numbered 1 v ≡ Fine → v ≡ fine
+numbered-fine fine e = refl
+numbered-fine none e = never (cc)
+numbered-fine (stop i p r) e = never (cc)
+
+numbered-no : (v : Found) (n p : ℕ) (r : Refusal) (Goal : Type 0) → numbered 1 v ≡ No n p r
+    → (v ≡ none → n ≡ 1 → p ≡ 1 → r ≡ NoReset → Goal) → ((i : ℕ) → v ≡ stop i p r → n ≡ suc i → Goal) → Goal
+numbered-no fine n p r G e f g = never (cc)
+numbered-no none n p r G e f g = f refl (cc) (cc) (cc)
+numbered-no (stop i q s) n p r G e f g =
+    let z : 1 + i ≡ n = cc in
+    let y : s ≡ r = cc in
+    let x : q ≡ p = cc in
+    g i (rw (x, y) refl) (omega arith)
+
+-- ---- a script that the check reads
+
+abbrev finds : ℕ → List (List ℕ) → Found
+finds capacity lines = found.found capacity lines startBoth
+
+module _ (capacity : ℕ) (lines : List (List ℕ)) where
+  -- a long line answers 5 in every course
+  long-answers : (ls : List (List ℕ)) (g : Gaps ls) (w : World) → Open w → (i : ℕ) → tooLong (getD ls i []) ≡ true → answerOf ls g w i ≡ Refused LongLine 0
+  unfolding answerOf
+  long-answers [] g w o i e = absurd (false≢true e)
+  long-answers (l ∷ ls) g w o zero e = line-long (before (g .0) w) (events-open (g .0 .events) w o) (g .0 .room) l e
+  long-answers (l ∷ ls) g w o (suc i) e =
+      long-answers ls (g .1) (after (g .0) l w) (line-open (before (g .0) w) (events-open (g .0 .events) w o) (g .0 .room) l) i e
+
+  short-zero : Short lines 0
+  unfolding lineAt
+  short-zero = refl
+
+  short-suc : (i : ℕ) → tooLong (getD lines i []) ≡ false → Short lines (suc i)
+  unfolding lineAt
+  short-suc i e = e
+
+  short-every : ((i : ℕ) → tooLong (getD lines i []) ≡ false) → (n : ℕ) → Short lines n
+  short-every f zero = short-zero
+  short-every f (suc i) = short-suc i (f i)
+
+  -- every course
+  course-fine : finds capacity lines ≡ fine → (k : Course capacity lines) (n : ℕ) → answers k n ≡ Passed
+  unfolding answers
+  course-fine e k zero = refl
+  course-fine e k (suc i) =
+      script-fine capacity lines startBoth (k .start) (k .gaps) (course-open capacity lines k) (course-sim capacity lines k) (k .rooms) e i
+
+  module _ (i p : ℕ) (r : Refusal) (e : finds capacity lines ≡ stop i p r) where
+    course-before : (k : Course capacity lines) (m : ℕ) → m < suc i → answers k m ≡ Passed
+    unfolding answers
+    course-before k zero h = refl
+    course-before k (suc j) h =
+        script-before capacity lines startBoth (k .start) (k .gaps) (course-open capacity lines k) (course-sim capacity lines k) (k .rooms) i p r e j (omega arith)
+
+    course-earlier : (k : Course capacity lines) (q : ℕ) (s : Refusal) → answers k (suc i) ≡ Refused s q → p ≤ q
+    unfolding answers
+    course-earlier k =
+        script-earlier capacity lines startBoth (k .start) (k .gaps) (course-open capacity lines k) (course-sim capacity lines k) (k .rooms) i p r e
+
+    refused-first : capacityFits capacity ≡ true → r ≢ NoReset → r ≢ LongScriptLine → FirstRefused capacity lines (suc i) p r
+    unfolding answers course-of fresh
+    refused-first fits x y =
+        let w = reached capacity lines startBoth i p r e x y in
+        let k = course-of capacity fits (w .0) lines in
+        record {
+          witness = k;
+          refuses = (w .1) (k .start) (course-open capacity lines k) (fresh-at capacity fits (w .0));
+          before = course-before;
+          earlier = course-earlier;
+        }
+
+    -- no line before is over-long
+    short-to : r ≢ LongScriptLine → (m : ℕ) → m ≤ suc i → Short lines m
+    short-to n zero h = short-zero
+    short-to n (suc j) h =
+        order-split j i (Short lines (suc j)) (λ l. short-suc j (short-before capacity lines startBoth i p r e j l))
+        (λ l. rw l (short-suc i (short-here capacity lines startBoth i p r e n))) (λ l. absurd (omega arith))
+
+  -- ---- each verdict
+
+  all-pass : capacityFits capacity ≡ true → finds capacity lines ≡ fine → AllPass capacity lines
+  all-pass fits e =
+      record {
+        capacity-fits = fits;
+        begun = led-fine capacity 1 lines startBoth refl e;
+        short = short-every (short-fine capacity lines startBoth e);
+        passed = course-fine e;
+      }
+
+  long-suc : (i : ℕ) → tooLong (getD lines i []) ≡ true → Short lines (suc i) → ⊥
+  unfolding lineAt
+  long-suc i e f = false≢true (sym f ∙ e)
+
+  begins-none : begins demand.none ≡ true → ⊥
+  unfolding begins
+  begins-none e = false≢true e
+
+  begins-is : (n p : ℕ) (c : Parsed) → begins (first n p c) ≡ isReset c
+  unfolding begins
+  begins-is n p c = refl
+
+  refused-apart : (k : Course capacity lines) (n p : ℕ) (r : Refusal) → answers k n ≡ Refused r p → answers k n ≡ Passed → ⊥
+  refused-apart k n p r e f = not-passed r p (sym e ∙ f)
+
+  -- 7
+  not-begun : (i p : ℕ) → finds capacity lines ≡ stop i p NoReset → NotBegun lines (suc i) p
+  not-begun i p e =
+      let c = led-seven capacity 1 lines startBoth i p refl e in
+      let z : 1 + i ≡ suc i = omega arith in
+      other (suc i) p (c .0) (c .1 ∙ ap (λ (n : ℕ). first n p (c .0)) z) (c .2) (short-to i p NoReset e seven-eight)
+
+  no-command : finds capacity lines ≡ none → NotBegun lines 1 1
+  no-command e = nothing (led-none capacity 1 lines startBoth refl e) (short-every (short-none capacity lines startBoth e))
+
+  -- 8
+  long-at : (i p : ℕ) → finds capacity lines ≡ stop i p LongScriptLine → LongAt capacity lines (suc i) p
+  unfolding lineAt
+  long-at i p e =
+      let k = long-here capacity lines startBoth i p e in
+      record {
+        nowhere = k .0;
+        long = k .1;
+        begun = λ m q c f h. led-before capacity 1 lines startBoth i p LongScriptLine refl e m q c f (omega arith);
+        before = course-before i p LongScriptLine e;
+      }
+
+  -- ---- and back
+
+  module _ (fits : capacityFits capacity ≡ true) where
+    fine-back : AllPass capacity lines → finds capacity lines ≡ fine
+    fine-back a =
+        found-split (finds capacity lines) (finds capacity lines ≡ fine) (λ e. e)
+        (λ e. absurd (begins-none (rw (led-none capacity 1 lines startBoth refl e) at (a .begun))))
+        (λ i p r e.
+        refusal-split r (finds capacity lines ≡ fine)
+        (λ z.
+        let f : finds capacity lines ≡ stop i p NoReset = rw z at e in
+        let c = led-seven capacity 1 lines startBoth i p refl f in
+        let b : begins (first (1 + i) p (c .0)) ≡ true = rw (c .1) at (a .begun) in
+        absurd (false≢true (sym (c .2) ∙ (sym (begins-is (1 + i) p (c .0)) ∙ b))))
+        (λ z.
+        let f : finds capacity lines ≡ stop i p LongScriptLine = rw z at e in
+        absurd (long-suc i (long-here capacity lines startBoth i p f .1) (a .short (suc i))))
+        (λ x y.
+        let k = refused-first i p r e fits x y in
+        absurd (refused-apart (k .witness) (suc i) p r (k .refuses) (a .passed (k .witness) (suc i)))))
+
+    -- a long line of the low course
+    long-refused : (i : ℕ) → tooLong (getD lines i []) ≡ true → ((k : Course capacity lines) → answers k (suc i) ≡ Passed) → ⊥
+    unfolding answers
+    long-refused i e f =
+        let k = course-of capacity fits low lines in
+        refused-apart k (suc i) 0 LongLine (long-answers lines (k .gaps) (k .start) (course-open capacity lines k) i e) (f k)
+
+    long-back : (j p : ℕ) → LongAt capacity lines (suc j) p → finds capacity lines ≡ stop j 0 LongScriptLine
+    unfolding lineAt
+    long-back j p a =
+        found-split (finds capacity lines) (finds capacity lines ≡ stop j 0 LongScriptLine)
+        (λ e. absurd (false≢true (sym (short-fine capacity lines startBoth e j) ∙ a .long)))
+        (λ e. absurd (false≢true (sym (short-none capacity lines startBoth e j) ∙ a .long)))
+        (λ i q r e.
+        order-split i j (finds capacity lines ≡ stop j 0 LongScriptLine)
+        (λ h.
+        absurd
+        (refusal-split r ⊥
+        (λ z.
+        let f : finds capacity lines ≡ stop i q NoReset = rw z at e in
+        let c = led-seven capacity 1 lines startBoth i q refl f in
+        false≢true (sym (c .2) ∙ a .begun (1 + i) q (c .0) (c .1) (omega arith)))
+        (λ z.
+        let f : finds capacity lines ≡ stop i q LongScriptLine = rw z at e in
+        long-refused i (long-here capacity lines startBoth i q f .1) (λ k. a .before k (suc i) (omega arith)))
+        (λ x y.
+        let k = refused-first i q r e fits x y in
+        refused-apart (k .witness) (suc i) q r (k .refuses) (a .before (k .witness) (suc i) (omega arith)))))
+        (λ h.
+        let here : tooLong (getD lines i []) ≡ true = rw h (a .long) in
+        let x : (r ≢ LongScriptLine) → ⊥ = λ n. false≢true (sym (short-here capacity lines startBoth i q r e n) ∙ here) in
+        refusal-split r (finds capacity lines ≡ stop j 0 LongScriptLine)
+        (λ z. absurd (x (λ w. seven-eight (sym z ∙ w))))
+        (λ z.
+        let f : finds capacity lines ≡ stop i q LongScriptLine = rw z at e in
+        let n = long-here capacity lines startBoth i q f .0 in
+        f ∙ rw (h, n) refl)
+        (λ u v. absurd (x v)))
+        (λ h. absurd (false≢true (sym (short-before capacity lines startBoth i q r e j h) ∙ a .long))))
+
+    -- the other first command, or none
+    other-back : (n p : ℕ) (c : Parsed) → leadOf lines ≡ first n p c → isReset c ≡ false → ((m : ℕ) → m ≤ n → Short lines m)
+        → numbered 1 (finds capacity lines) ≡ No n p NoReset
+    other-back n p c l f s =
+        let never-begins : begins (leadOf lines) ≡ true → ⊥ = λ b.
+        let d : begins (first n p c) ≡ true = rw l at b in
+        false≢true (sym f ∙ (sym (begins-is n p c) ∙ d))
+        in
+        found-split (finds capacity lines) (numbered 1 (finds capacity lines) ≡ No n p NoReset)
+        (λ e. absurd (never-begins (led-fine capacity 1 lines startBoth refl e)))
+        (λ e. let z : first n p c ≡ demand.none = sym l ∙ led-none capacity 1 lines startBoth refl e in never (cc))
+        (λ i q r e.
+        refusal-split r (numbered 1 (finds capacity lines) ≡ No n p NoReset)
+        (λ z.
+        let g : finds capacity lines ≡ stop i q NoReset = rw z at e in
+        let d = led-seven capacity 1 lines startBoth i q refl g in
+        let w : first (1 + i) q (d .0) ≡ first n p c = sym (d .1) ∙ l in
+        let u : 1 + i ≡ n = cc in
+        let v : q ≡ p = cc in
+        rw (g, u, v) refl)
+        (λ z.
+        let g : finds capacity lines ≡ stop i q LongScriptLine = rw z at e in
+        let long = long-here capacity lines startBoth i q g .1 in
+        absurd
+        (bool-split (leb (suc i) n) ⊥
+        (λ h. long-suc i long (s (suc i) (leb-true (suc i) n h)))
+        (λ h.
+        let m = leb-false (suc i) n h in
+        false≢true (sym f ∙ led-before capacity 1 lines startBoth i q r refl e n p c l (omega arith)))))
+        (λ x y. absurd (never-begins (led-other capacity 1 lines startBoth i q r refl e x y))))
+
+    nothing-back : leadOf lines ≡ demand.none → ((m : ℕ) → Short lines m) → numbered 1 (finds capacity lines) ≡ No 1 1 NoReset
+    nothing-back l s =
+        let never-begins : begins (leadOf lines) ≡ true → ⊥ = λ b. begins-none (rw l at b) in
+        found-split (finds capacity lines) (numbered 1 (finds capacity lines) ≡ No 1 1 NoReset)
+        (λ e. absurd (never-begins (led-fine capacity 1 lines startBoth refl e)))
+        (λ e. rw e refl)
+        (λ i q r e.
+        refusal-split r (numbered 1 (finds capacity lines) ≡ No 1 1 NoReset)
+        (λ z.
+        let g : finds capacity lines ≡ stop i q NoReset = rw z at e in
+        let d = led-seven capacity 1 lines startBoth i q refl g in
+        let w : first (1 + i) q (d .0) ≡ demand.none = sym (d .1) ∙ l in
+        never (cc))
+        (λ z.
+        let g : finds capacity lines ≡ stop i q LongScriptLine = rw z at e in
+        absurd (long-suc i (long-here capacity lines startBoth i q g .1) (s (suc i))))
+        (λ x y. absurd (never-begins (led-other capacity 1 lines startBoth i q r refl e x y))))
+
+    begun-back : (n p : ℕ) → NotBegun lines n p → numbered 1 (finds capacity lines) ≡ No n p NoReset
+    begun-back n p (other m q c l f s) = other-back n p c l f s
+    begun-back n p (nothing l s) = nothing-back l s
+
+-- ---- the claim
+
+seven-nine : NoReset ≢ BadTraces
+seven-nine = apart NoReset BadTraces (λ e. omega arith)
+
+-- 9 is not found
+found-nine : (capacity : ℕ) (lines : List (List ℕ)) (n p : ℕ) → numbered 1 (finds capacity lines) ≡ No n p BadTraces → ⊥
+found-nine capacity lines n p e =
+    numbered-no (finds capacity lines) n p BadTraces ⊥ e
+    (λ a b c d. seven-nine (sym d))
+    (λ i a b. let z = stop-number capacity lines startBoth i p BadTraces a in omega arith)
+
+module _ (capacity : ℕ) (script : List ℕ) where
+  -- the check's verdict v, where the capacity fits and where it doesn't
+  by-capacity : (v : Verdict) (Goal : Type 0) → checkOf capacity script ≡ v
+      → (capacityFits capacity ≡ true → numbered 1 (finds capacity (linesOf script)) ≡ v → Goal)
+      → (capacityFits capacity ≡ false → No 0 0 BadTraces ≡ v → Goal) → Goal
+  by-capacity v G e f g =
+      bool-split (capacityFits capacity) G
+      (λ h. f h (sym (check-fits capacity script h) ∙ e))
+      (λ h. g h (sym (check-unfit capacity script h) ∙ e))
+
+  yes-case : (checkOf capacity script ≡ Fine) ↔ AllPass capacity (linesOf script)
+  yes-case = (
+    (λ e.
+        by-capacity Fine (AllPass capacity (linesOf script)) e
+        (λ h f. all-pass capacity (linesOf script) h (numbered-fine (finds capacity (linesOf script)) f))
+        (λ h f. never (cc))),
+    (λ a. check-fits capacity script (a .capacity-fits) ∙ ap (numbered 1) (fine-back capacity (linesOf script) (a .capacity-fits) a)),
+  )
+
+  no-case : (n p : ℕ) (r : Refusal) → checkOf capacity script ≡ No n p r → r ≢ NoReset → r ≢ LongScriptLine → r ≢ BadTraces
+      → FirstRefused capacity (linesOf script) n p r
+  no-case n p r e x y z =
+      by-capacity (No n p r) (FirstRefused capacity (linesOf script) n p r) e
+      (λ h f.
+      numbered-no (finds capacity (linesOf script)) n p r (FirstRefused capacity (linesOf script) n p r) f
+      (λ a b c d. absurd (x d))
+      (λ i a b. rw b (refused-first capacity (linesOf script) i p r a h x y)))
+      (λ h f. let w : BadTraces ≡ r = cc in absurd (z (sym w)))
+
+  seven-case : (n p : ℕ) → (checkOf capacity script ≡ No n p NoReset) ↔ ((capacityFits capacity ≡ true) × NotBegun (linesOf script) n p)
+  seven-case n p = (
+    (λ e.
+        by-capacity (No n p NoReset) ((capacityFits capacity ≡ true) × NotBegun (linesOf script) n p) e
+        (λ h f. (
+          h,
+          numbered-no (finds capacity (linesOf script)) n p NoReset (NotBegun (linesOf script) n p) f
+              (λ a b c d. rw (b, c) (no-command capacity (linesOf script) a))
+              (λ i a b. rw b (not-begun capacity (linesOf script) i p a)),
+        ))
+        (λ h f. let w : BadTraces ≡ NoReset = cc in absurd (seven-nine (sym w)))),
+    (λ a. check-fits capacity script (a .0) ∙ begun-back capacity (linesOf script) (a .0) n p (a .1)),
+  )
+
+  long-number : capacityFits capacity ≡ true → (n p : ℕ) → LongAt capacity (linesOf script) n p → checkOf capacity script ≡ No n p LongScriptLine
+  long-number fits zero p a = absurd (false≢true (sym (short-zero capacity (linesOf script)) ∙ a .long))
+  long-number fits (suc j) p a =
+      let f = ap (numbered 1) (long-back capacity (linesOf script) fits j p a) in
+      let z : 1 + j ≡ suc j = omega arith in
+      check-fits capacity script fits ∙ (f ∙ rw (z, a .nowhere) refl)
+
+  eight-case : (n p : ℕ) → (checkOf capacity script ≡ No n p LongScriptLine) ↔ ((capacityFits capacity ≡ true) × LongAt capacity (linesOf script) n p)
+  eight-case n p = (
+    (λ e.
+        by-capacity (No n p LongScriptLine) ((capacityFits capacity ≡ true) × LongAt capacity (linesOf script) n p) e
+        (λ h f. (
+          h,
+          numbered-no (finds capacity (linesOf script)) n p LongScriptLine (LongAt capacity (linesOf script) n p) f
+              (λ a b c d. absurd (seven-eight (sym d)))
+              (λ i a b. rw b (long-at capacity (linesOf script) i p a)),
+        ))
+        (λ h f. let w : BadTraces ≡ LongScriptLine = cc in absurd (apart BadTraces LongScriptLine (λ u. omega arith) w))),
+    (λ a. long-number (a .0) n p (a .1)),
+  )
+
+  nine-case : (n p : ℕ) → (checkOf capacity script ≡ No n p BadTraces) ↔ ((capacityFits capacity ≡ false) × (n ≡ 0) × (p ≡ 0))
+  nine-case n p = (
+    (λ e.
+        by-capacity (No n p BadTraces) ((capacityFits capacity ≡ false) × (n ≡ 0) × (p ≡ 0)) e
+        (λ h f. absurd (found-nine capacity (linesOf script) n p f))
+        (λ h f. (h, cc, cc))),
+    (λ a. check-unfit capacity script (a .0) ∙ rw (a .1, a .2) refl),
+  )
+
+  pub demand3 : Demand3 capacity script
+  demand3 = record { yes = yes-case; no = no-case; seven = seven-case; eight = eight-case; nine = nine-case; course = λ h. course-of capacity h low (linesOf script) }

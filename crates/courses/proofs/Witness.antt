@@ -1,0 +1,247 @@
+-- The check's two courses are courses: where the check stops by another number than 7 or 8, the low or the high one is refused there.
+use Prim.Native.Nat.{ℕ, _+_, _-_, _*_, _/_, _≤_}
+use native.Mathlib.Omega.{arith}
+use native.Mathlib.Nat.{mul-div-le, le-div-iff-mul-le, div-le-self}
+use mathlib.Core.Bool.{Bool, true, false, cond, _&&_, false≢true}
+use mathlib.Core.Path.{_≡_, refl, sym, ap, _∙_}
+use mathlib.Core.Logic.{_≢_}
+use mathlib.Core.List.{List, [], _∷_}
+use lib.Dec.{eqb}
+use lib.ListN.{length}
+use borrow.Author.Tests.{le-leb}
+use Rattle.refusal.specs.declared.Refusal.{Refusal}
+use Rattle.refusal.specs.declared.Refusal.the-variants.{NotAllowed, NoReset}
+use Rattle.refusal.specs.declared.Outcome.the-variants as outcome
+use Rattle.settings.specs.Table.{fmod, harm, valueOf}
+use Rattle.settings.specs.Frequency.{hertz}
+use Rattle.settings.specs.Allowed.{keepsAll}
+use Rattle.settings.specs.declared.Settings.{Settings}
+use Rattle.command.specs.Parsed.{parsedOf}
+use Rattle.command.specs.declared.Kind.{Kind}
+use Rattle.command.specs.declared.Kind.the-variants.{Set, Query, Act}
+use Rattle.command.specs.declared.Parsed.{Parsed}
+use Rattle.command.specs.declared.Parsed.the-variants as parsed
+use Rattle.state.specs.State.{detectionNow, crossedFrom}
+use Rattle.state.specs.Storing.{triggerOf, sampledBy}
+use Rattle.state.specs.declared.Moving.{Moving}
+use Rattle.state.specs.declared.State.{State}
+use Rattle.change.specs.Allows.{allowsOf}
+use Rattle.change.specs.Change.{movingAfter, stateAfter}
+use Rattle.line.specs.Perform.{doneBy, performed, commandOf}
+use Rattle.line.specs.Line.{Line, drops, waits, afterOf, stepOf, runAll}
+use Rattle.line.specs.declared.Answer.the-variants.{Passed, Refused}
+use Rattle.event.specs.Event.{takesFrequency, withExternal, measuredBy, sampledIn, eventOf}
+use Rattle.event.specs.declared.Event.{Event}
+use Rattle.event.specs.declared.Event.the-variants.{Trigger, Measured}
+use Rattle.script.specs.Check.{resets, measuredHigh, triggeredHigh, kindRefusal, textRefusal, kindAfter, textAfter, textsAnswer, textsAfter}
+use Rattle.script.specs.declared.Both.{Both}
+use Rattle.courses.proofs.Alike.{Alike, alike-then, alike-value, alike-allows, alike-after, alike-moving, alike-sampling, after-settings, after-moving, after-unit, crossed-settings, crossed-moving}
+use Rattle.courses.proofs.Gap.{harm-kept}
+use Rattle.courses.proofs.Found.{not-passed, not-done, answer-passed, answer-split}
+use Rattle.courses.proofs.Commands.{allowed-done, effectIn, run-rest, step-passed, step-refused, run-refused, count-step}
+
+-- which of the two
+pub data Side : Type 0 where
+  low high : Side
+
+abbrev pub side : Side → Both → Moving
+side low b = b .low
+side high b = b .high
+
+-- a state where that course is
+pub record At (d : Side) (capacity : ℕ) (b : Both) (s : State) : Type 0 where
+  pub same : s .unit .capacity ≡ capacity
+  pub alike : Alike (s .settings) (b .settings)
+  pub moving : s .moving ≡ side d b
+
+-- ---- one command
+
+reset-allows : (kind : Kind) (x : Settings) (m : Moving) → resets kind ≡ true → allowsOf x m kind ≡ true
+unfolding resets allowsOf
+reset-allows (Set a) x m e = absurd (false≢true e)
+reset-allows (Query q) x m e = absurd (false≢true e)
+reset-allows (Act a) x m e = refl
+
+both-sides : (d : Side) (b : Both) (kind : Kind) → allowsOf (b .settings) (b .low) kind ≡ true → allowsOf (b .settings) (b .high) kind ≡ true
+    → allowsOf (b .settings) (side d b) kind ≡ true
+both-sides low b kind l h = l
+both-sides high b kind l h = h
+
+-- what the check passes, that course passes
+side-allows : (d : Side) (b : Both) (kind : Kind) → kindRefusal kind b ≡ outcome.Done → allowsOf (b .settings) (side d b) kind ≡ true
+unfolding kindRefusal
+side-allows d b kind =
+    by (b .begun) (allowsOf (b .settings) (b .low) kind) (allowsOf (b .settings) (b .high) kind) (resets kind) refl refl refl
+  where
+    by : (a l h r : Bool) → allowsOf (b .settings) (b .low) kind ≡ l → allowsOf (b .settings) (b .high) kind ≡ h → resets kind ≡ r
+        → cond a (cond (l && h) outcome.Done (outcome.Refused NotAllowed)) (cond r outcome.Done (outcome.Refused NoReset)) ≡ outcome.Done
+        → allowsOf (b .settings) (side d b) kind ≡ true
+    by true true true r p q u e = both-sides d b kind p q
+    by true true false r p q u e = not-done NotAllowed e
+    by true false h r p q u e = not-done NotAllowed e
+    by false l h true p q u e = reset-allows kind (b .settings) (side d b) u
+    by false l h false p q u e = not-done NoReset e
+
+side-after : (d : Side) (capacity : ℕ) (kind : Kind) (b : Both) → side d (kindAfter capacity kind b) ≡ movingAfter kind (b .settings) (side d b) capacity
+unfolding kindAfter
+side-after low capacity kind b = refl
+side-after high capacity kind b = refl
+
+module _ (d : Side) (capacity : ℕ) (b : Both) (s : State) (i : At d capacity b s) where
+  state-allows : (kind : Kind) → allowsOf (s .settings) (s .moving) kind ≡ allowsOf (b .settings) (side d b) kind
+  state-allows kind = alike-allows (s .settings) (b .settings) (i .alike) (s .moving) kind ∙ ap (λ (m : Moving). allowsOf (b .settings) m kind) (i .moving)
+
+  at-after : (kind : Kind) → At d capacity (kindAfter capacity kind b) (stateAfter kind s)
+  at-after kind =
+      record {
+        same = rw (after-unit kind s) (i .same);
+        alike = unfold kindAfter in alike-then (after-settings kind s) (alike-after (s .settings) (b .settings) (i .alike) kind);
+        moving =
+            after-moving kind s
+            ∙ (alike-moving (s .settings) (b .settings) (i .alike) kind (s .moving) (s .unit .capacity)
+            ∙ (rw (i .same, i .moving) (sym (side-after d capacity kind b))));
+      }
+
+  at-parsed : (room : ℕ) (waiting : Bool) (p : Parsed) (one two : List ℕ) → textRefusal p b ≡ outcome.Done
+      → drops (commandOf room waiting p s one two .outcome) ≡ false
+      → (commandOf room waiting p s one two .outcome ≡ outcome.Done) × At d capacity (textAfter capacity p b) (commandOf room waiting p s one two .state)
+  unfolding textRefusal textAfter commandOf
+  at-parsed room waiting parsed.Empty one two e f = (refl, i)
+  at-parsed room waiting (parsed.Refused r) one two e f = not-done _ e
+  at-parsed room waiting (parsed.Taken c) one two e f =
+      allowed-done (λ t. (t .outcome ≡ outcome.Done) × At d capacity (kindAfter capacity (c .kind) b) (t .state)) room waiting (c .kind) s one two
+      (state-allows (c .kind) ∙ side-allows d b (c .kind) e) f (unfold doneBy in (refl, at-after (c .kind)))
+
+-- what the check refuses, but for 7, one of the two refuses
+abbrev Refuses : ℕ → Both → Parsed → Refusal → Side → Type 0
+Refuses capacity b p r d =
+    (s : State) → At d capacity b s → (room : ℕ) (waiting : Bool) (one two : List ℕ) → commandOf room waiting p s one two .outcome ≡ outcome.Refused r
+
+not-allowed : (capacity : ℕ) (b : Both) (c : Kind) (d : Side) → allowsOf (b .settings) (side d b) c ≡ false
+    → Refuses capacity b (parsed.Taken (record { kind = c })) NotAllowed d
+unfolding commandOf performed
+not-allowed capacity b c d e s i room waiting one two = rw (state-allows d capacity b s i c ∙ e) refl
+
+pub refused-same : (r s : Refusal) → outcome.Refused r ≡ outcome.Refused s → r ≡ s
+refused-same r s e = cc
+
+parsed-refuses : (capacity : ℕ) (b : Both) (p : Parsed) (r : Refusal) → textRefusal p b ≡ outcome.Refused r → r ≢ NoReset
+    → (d : Side) × Refuses capacity b p r d
+unfolding textRefusal
+parsed-refuses capacity b parsed.Empty r e n = not-done r (sym e)
+parsed-refuses capacity b (parsed.Refused q) r e n = (low, by (b .begun) (refused-same _ _ e)) where
+  by : (t : Bool) → cond t q NoReset ≡ r → Refuses capacity b (parsed.Refused q) r low
+  by true z s i room waiting one two = unfold commandOf in ap (λ (x : Refusal). outcome.Refused x) z
+  by false z s i room waiting one two = absurd (n (sym z))
+parsed-refuses capacity b (parsed.Taken c) r e n =
+    by (b .begun) (allowsOf (b .settings) (b .low) (c .kind)) (allowsOf (b .settings) (b .high) (c .kind)) (resets (c .kind)) refl refl
+    (unfold kindRefusal in e)
+  where
+    by : (a l h t : Bool) → allowsOf (b .settings) (b .low) (c .kind) ≡ l → allowsOf (b .settings) (b .high) (c .kind) ≡ h
+        → cond a (cond (l && h) outcome.Done (outcome.Refused NotAllowed)) (cond t outcome.Done (outcome.Refused NoReset)) ≡ outcome.Refused r
+        → (d : Side) × Refuses capacity b (parsed.Taken c) r d
+    by true false h t p q z =
+        (low, λ s i room waiting one two. not-allowed capacity b (c .kind) low p s i room waiting one two ∙ z)
+    by true true false t p q z =
+        (high, λ s i room waiting one two. not-allowed capacity b (c .kind) high q s i room waiting one two ∙ z)
+    by true true true t p q z = not-done r (sym z)
+    by false l h true p q z = not-done r (sym z)
+    by false l h false p q z = absurd (n (sym (refused-same _ _ z)))
+
+-- ---- a line's commands
+
+at-step : (d : Side) (capacity room : ℕ) (t : List ℕ) (l : Line) (b : Both) → At d capacity b (l .state) → textRefusal (parsedOf t) b ≡ outcome.Done
+    → stepOf room t l .dropped ≡ false → (effectIn room t l .outcome ≡ outcome.Done) × At d capacity (textAfter capacity (parsedOf t) b) (stepOf room t l .state)
+unfolding stepOf afterOf
+at-step d capacity room t l b i e f = at-parsed d capacity b (l .state) i (room - length (l .out)) (waits (l .out)) (parsedOf t) (l .one) (l .two) e f
+
+pub at-run : (d : Side) (capacity room : ℕ) (ts : List (List ℕ)) (l : Line) (b : Both) (p : ℕ) → At d capacity b (l .state)
+    → runAll room ts l .dropped ≡ false → textsAnswer capacity p ts b ≡ Passed → At d capacity (textsAfter capacity ts b) (runAll room ts l .state)
+unfolding textsAfter
+at-run d capacity room [] l b p i c e = unfold runAll in i
+at-run d capacity room (t ∷ ts) l b p i c e =
+    let rest = run-rest room t ts l c in
+    let q = answer-passed (textRefusal (parsedOf t) b) p (textsAnswer capacity (p + 1) ts (textAfter capacity (parsedOf t) b)) (unfold textsAnswer in e) in
+    let k = at-step d capacity room t l b i (q .0) (rest .0) in
+    rw (rest .1) (at-run d capacity room ts (stepOf room t l) (textAfter capacity (parsedOf t) b) (p + 1) (k .1) (rw (rest .1) at c) (q .1))
+
+abbrev RunRefuses : ℕ → Both → ℕ → List (List ℕ) → Refusal → ℕ → Side → Type 0
+RunRefuses capacity b n ts r p d =
+    (room : ℕ) (l : Line) → l .count ≡ n → l .answer ≡ Passed → At d capacity b (l .state) → runAll room ts l .dropped ≡ false
+    → runAll room ts l .answer ≡ Refused r p
+
+pub run-refuses : (capacity : ℕ) (b : Both) (n : ℕ) (ts : List (List ℕ)) (r : Refusal) (p : ℕ) → textsAnswer capacity (n + 1) ts b ≡ Refused r p
+    → r ≢ NoReset → (d : Side) × RunRefuses capacity b n ts r p d
+run-refuses capacity b n [] r p e z = not-passed r p (sym (unfold textsAnswer in e))
+run-refuses capacity b n (t ∷ ts) r p e z =
+    answer-split (textRefusal (parsedOf t) b) (n + 1) (textsAnswer capacity (n + 1 + 1) ts (textAfter capacity (parsedOf t) b)) p r
+    ((d : Side) × RunRefuses capacity b n (t ∷ ts) r p d) (unfold textsAnswer in e)
+    (λ f g.
+    let w = run-refuses capacity (textAfter capacity (parsedOf t) b) (n + 1) ts r p g z in (
+      w .0,
+      λ room l m a i c.
+          let rest = run-rest room t ts l c in
+          let k = at-step (w .0) capacity room t l b i f (rest .0) in
+          rw (rest .1)
+          ((w .1) room (stepOf room t l) (count-step room t l ∙ ap (λ (x : ℕ). x + 1) m) (step-passed room t l a (k .0)) (k .1) (rw (rest .1) at c)),
+    ))
+    (λ f g.
+    let w = parsed-refuses capacity b (parsedOf t) r f z in (
+      w .0,
+      λ room l m a i c.
+          let rest = run-rest room t ts l c in
+          let k = step-refused room t l r a ((w .1) (l .state) i (room - length (l .out)) (waits (l .out)) (l .one) (l .two)) in
+          rw (rest .1) (run-refused room ts (stepOf room t l) r p (k ∙ ap (λ (x : ℕ). Refused r x) (ap (λ (x : ℕ). x + 1) m ∙ g))),
+    ))
+
+-- ---- its events
+
+-- the highest frequency that is taken at these settings
+abbrev pub highest : Settings → ℕ
+highest x = hertz 102000 / valueOf x harm
+
+unfoldable pub eventsOf : Side → Both → List Event
+eventsOf low b = []
+eventsOf high b = Measured (highest (b .settings)) ∷ Trigger ∷ []
+
+module _ (x : Settings) (s : State) (a : Alike (s .settings) x) (k : keepsAll (s .settings) ≡ true) where
+  takes-highest : takesFrequency s (highest x) ≡ true
+  unfolding takesFrequency
+  takes-highest =
+      let same = alike-value a harm (λ q. omega arith) in
+      let one : 1 ≤ valueOf x harm = rw same at (harm-kept (s .settings) k .0) in
+      let most : valueOf x harm ≤ 19999 = rw same at (harm-kept (s .settings) k .1) in
+      let enough : 10 * valueOf x harm ≤ hertz 102000 = omega arith in
+      let least : 10 ≤ highest x = (le-div-iff-mul-le one) .1 enough in
+      rw (
+        same,
+        le-leb 10 (highest x) least,
+        le-leb (highest x) (hertz 102000) (div-le-self (hertz 102000) (valueOf x harm)),
+        le-leb (valueOf x harm * highest x) (hertz 102000) (mul-div-le (hertz 102000) (valueOf x harm)),
+      )
+      refl
+
+  pub measured-at : (m : Moving) → s .moving ≡ m →
+      let t = measuredBy (highest x) s in
+      (t .unit ≡ s .unit) × Alike (t .settings) x × (t .moving ≡ measuredHigh x m)
+  unfolding measuredBy measuredHigh
+  measured-at m e =
+      rw (takes-highest, alike-value a fmod (λ q. omega arith)) (by (eqb (valueOf x fmod) 1))
+    where
+      taken : State
+      taken = crossedFrom (detectionNow s) (withExternal (highest x) s)
+
+      by : (t : Bool) → (cond t s taken .unit ≡ s .unit) × Alike (cond t s taken .settings) x
+          × (cond t s taken .moving ≡ cond t m (record { external = highest x; storage = m .storage }))
+      by true = (refl, a, e)
+      by false = (
+        unfold crossedFrom withExternal in refl,
+        alike-then (crossed-settings (detectionNow s) (withExternal (highest x) s)) (unfold withExternal in a),
+        crossed-moving (detectionNow s) (withExternal (highest x) s) ∙ (unfold withExternal in ap (λ (n : Moving). record { external = highest x; storage = n .storage }) e),
+      )
+
+pub triggered-at : (capacity : ℕ) (x : Settings) (s : State) (m : Moving) (one two : List ℕ) → s .unit .capacity ≡ capacity → Alike (s .settings) x → s .moving ≡ m →
+    let t = eventOf Trigger s one two .state in
+    (t .unit ≡ s .unit) × Alike (t .settings) x × (t .moving ≡ triggeredHigh capacity x m)
+unfolding eventOf sampledIn sampledBy triggerOf triggeredHigh
+triggered-at capacity x s m one two c a e = (refl, a, rw (c, e, alike-sampling (s .settings) x a) refl)

@@ -1,0 +1,1 @@
+// No function of its own: demand 3, over whole courses.

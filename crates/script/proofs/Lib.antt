@@ -1,0 +1,4 @@
+-- Laws on the script check.
+pub mod Parts
+pub mod Turns
+pub mod Script

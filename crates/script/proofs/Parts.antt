@@ -1,0 +1,59 @@
+-- The first part of a text, and the first line of a script. Assumes nothing.
+use Prim.Native.Nat.{ℕ, suc, _<_, _≤_}
+use mathlib.Core.Path.{_≡_, refl, ap, _∙_}
+use mathlib.Core.Bool.{Bool, true, false, cond}
+use mathlib.Core.List.{List, [], _∷_}
+use native.Mathlib.Omega.{arith}
+use lib.Dec.{ltb, eqb}
+use lib.ListN.{length, take, drop, drop-of-length-le}
+use lib.Seq.{take-all}
+use borrow.Author.Tests.{ltb-true, ltb-false}
+use Rattle.divide.specs.Divide.{span, parts, onHead}
+use Rattle.divide.proofs.Span.{span-le, parts-more, parts-last}
+use Rattle.script.specs.Check.{withoutLast, linesOf}
+
+-- the first part, and the others
+pub parts-first : (sep : ℕ) (s : List ℕ) → parts sep s ≡ take (span sep s) s ∷ drop 1 (parts sep s)
+unfolding span parts onHead
+parts-first sep [] = refl
+parts-first sep (b ∷ bs) = by (parts-first sep bs) (eqb b sep)
+  where
+    by : parts sep bs ≡ take (span sep bs) bs ∷ drop 1 (parts sep bs) → (t : Bool) →
+        cond t ([] ∷ parts sep bs) (onHead b (parts sep bs))
+        ≡ take (cond t 0 (suc (span sep bs))) (b ∷ bs) ∷ drop 1 (cond t ([] ∷ parts sep bs) (onHead b (parts sep bs)))
+    by ih true = refl
+    by ih false = rw ih
+
+-- a line that others follow
+more-lines : (l x : List ℕ) (ps xs : List (List ℕ)) → ps ≡ x ∷ xs → withoutLast (l ∷ ps) ≡ l ∷ withoutLast ps
+unfolding withoutLast
+more-lines l x ps xs e = rw e
+
+last-line : (s : List ℕ) → 0 < length s → withoutLast (s ∷ []) ≡ s ∷ []
+unfolding withoutLast
+last-line [] h = absurd (omega arith)
+last-line (b ∷ bs) h = refl
+
+no-lines : linesOf [] ≡ []
+unfolding withoutLast parts
+no-lines = refl
+
+-- the first line of a script, and the others
+first-by : (t : Bool) (s : List ℕ) → ltb (span 10 s) (length s) ≡ t → 0 < length s → linesOf s ≡ take (span 10 s) s ∷ linesOf (drop (suc (span 10 s)) s)
+first-by true s e h =
+    let l = ltb-true (span 10 s) (length s) e in
+    let rest = drop (suc (span 10 s)) s in
+    ap withoutLast (parts-more 10 s l) ∙ more-lines (take (span 10 s) s) _ (parts 10 rest) _ (parts-first 10 rest)
+first-by false s e h =
+    let l = ltb-false (span 10 s) (length s) e in
+    let m = span-le 10 s in
+    let k : span 10 s ≡ length s = omega arith in
+    ap withoutLast (parts-last 10 s k)
+    ∙ last-line s h
+    ∙ rw (k, take-all (length s) s (omega arith), drop-of-length-le s {i = suc (length s)} (omega arith), no-lines)
+
+pub lines-first : (s : List ℕ) → 0 < length s → linesOf s ≡ take (span 10 s) s ∷ linesOf (drop (suc (span 10 s)) s)
+lines-first s h = first-by (ltb (span 10 s) (length s)) s refl h
+
+pub lines-none : (s : List ℕ) (a : ℕ) → length s ≤ a → linesOf (drop a s) ≡ []
+lines-none s a h = rw (drop-of-length-le s {i = a} h) no-lines

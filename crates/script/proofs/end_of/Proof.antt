@@ -1,0 +1,37 @@
+-- `script::end_of` meets its contract. Assumes nothing.
+use Prim.Native.Nat.{_≤_}
+use mathlib.Core.Path.{_≡_}
+use native.Mathlib.Omega.{arith}
+use lib.ListN.{length, drop, length-drop}
+use borrow.Author.Needs.{needs}
+use Rattle.divide.specs.Divide.{span}
+use Rattle.divide.proofs.Span.{rest-from}
+use Rattle.script.proofs.end_of.Statement.{statement}
+use Rattle.script.proofs.end_of.Tie as tie
+
+sub-span-of : tie.Need-sub-span-of
+sub-span-of c = search needs
+
+part-span-of-start : tie.Need-part-span-of-start
+part-span-of-start c = search needs
+
+part-span-of-end : tie.Need-part-span-of-end
+part-span-of-end c = search needs
+
+span-of-requires : tie.Need-span-of-requires
+span-of-requires c κs = search needs
+
+add-result : tie.Need-add-result
+add-result c = search needs
+
+returns : tie.Need-returns
+returns c = let k = c .before .before .before .args in
+    let e : c .span-of .result ≡ span (k .separator) (drop (k .a) (k .text .now)) = rw (rest-from (k .text .now) (k .a)) at (c .span-of .ensures .0) in
+    let l : c .span-of .result ≤ length (drop (k .a) (k .text .now)) = rw (rest-from (k .text .now) (k .a)) at (c .span-of .ensures .1) in
+    let n = length-drop (k .a) (k .text .now) in
+    (rw e, (omega arith, omega arith))
+
+pub end-of-spec : {M : Type 1} → statement M
+end-of-spec =
+    tie.close
+    (tie.spec sub-span-of part-span-of-start part-span-of-end span-of-requires add-result returns)
