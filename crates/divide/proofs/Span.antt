@@ -33,6 +33,18 @@ span-le sep (x ∷ xs) = go (eqb x sep) (span-le sep xs)
     go false h = omega arith
 
 -- the first part, and the others
+pub parts-first : (sep : ℕ) (s : List ℕ) → parts sep s ≡ take (span sep s) s ∷ drop 1 (parts sep s)
+unfolding span parts onHead
+parts-first sep [] = refl
+parts-first sep (b ∷ bs) = by (parts-first sep bs) (eqb b sep)
+  where
+    by : parts sep bs ≡ take (span sep bs) bs ∷ drop 1 (parts sep bs) → (t : Bool) →
+        cond t ([] ∷ parts sep bs) (onHead b (parts sep bs))
+        ≡ take (cond t 0 (suc (span sep bs))) (b ∷ bs) ∷ drop 1 (cond t ([] ∷ parts sep bs) (onHead b (parts sep bs)))
+    by ih true = refl
+    by ih false = rw ih
+
+-- the first part, and the others, where there is a separator
 parts-go : (sep : ℕ) (t : Bool) (x : ℕ) (xs : List ℕ) →
     cond t 0 (suc (span sep xs)) < suc (length xs) →
     (span sep xs < length xs → parts sep xs ≡ take (span sep xs) xs ∷ parts sep (drop (suc (span sep xs)) xs)) →

@@ -1,7 +1,7 @@
 // Bytes divided at a separator: where the first part ends.
 ghost use mathlib.Core.Path.{_≡_};
-ghost use Prim.Native.Nat.{_≤_};
-ghost use lib.ListN.{length};
+ghost use Prim.Native.Nat.{_+_, _≤_};
+ghost use lib.ListN.{length, drop};
 ghost use Rattle.divide.specs.Divide.{span};
 
 // How many bytes of `s` stand before the first `separator`: all of them where there is none.
@@ -16,4 +16,13 @@ pub fn span_of(s: &[u8], separator: u8) -> usize
         i += 1;
     }
     i
+}
+
+// Where the part that starts at a ends.
+pub fn end_of(s: &[u8], separator: u8, a: usize) -> usize
+    requires { ⌜ a ≤ length (now s) ⌝ }
+    ensures { λ r. ⌜ r ≡ a + span separator (drop a (now (s .entry))) ⌝ }
+    ensures { λ r. ⌜ (a ≤ r) × (r ≤ length (now (s .entry))) ⌝ }
+{
+    a + span_of(&s[a..], separator)
 }

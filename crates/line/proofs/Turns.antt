@@ -1,14 +1,13 @@
 -- A line on its way: where its commands lie, and what a turn of the loop does. Assumes nothing.
 use Prim.Native.Nat.{ℕ, suc, _+_, _-_, _<_, _≤_}
 use mathlib.Core.Path.{_≡_, refl, sym, ap, _∙_}
-use mathlib.Core.Bool.{Bool, true, false, cond}
-use mathlib.Core.List.{List, [], _∷_, _++_}
+use mathlib.Core.Bool.{true, false, cond}
+use mathlib.Core.List.{List, _++_}
 use native.Mathlib.Omega.{arith}
-use lib.Dec.{eqb}
 use lib.ListN.{length, take, drop, length-drop, take-append-drop}
 use lib.Seq.{drop-drop, length-take-le}
-use Rattle.divide.specs.Divide.{span, parts, onHead}
-use Rattle.divide.proofs.Span.{parts-more, parts-last}
+use Rattle.divide.specs.Divide.{span, parts}
+use Rattle.divide.proofs.Span.{parts-first, parts-more, parts-last}
 use Rattle.reply.specs.Reply.{over}
 use Rattle.reply.proofs.Over.{over-take, over-drop}
 use Rattle.line.specs.declared.Progress.{Progress}
@@ -25,18 +24,6 @@ pub record OnWay (text one₀ two₀ reply₀ : List ℕ) (p₀ : Progress) (one
   pub long-one : length one ≡ length one₀
   pub long-two : length two ≡ length two₀
   pub counted : p .count ≤ a
-
--- the first command of a line, and the others
-parts-head : (s : List ℕ) → parts semicolon s ≡ take (span semicolon s) s ∷ drop 1 (parts semicolon s)
-unfolding span parts onHead
-parts-head [] = refl
-parts-head (b ∷ bs) = by (parts-head bs) (eqb b semicolon)
-  where
-    by : parts semicolon bs ≡ take (span semicolon bs) bs ∷ drop 1 (parts semicolon bs) → (t : Bool) →
-        cond t ([] ∷ parts semicolon bs) (onHead b (parts semicolon bs))
-        ≡ take (cond t 0 (suc (span semicolon bs))) (b ∷ bs) ∷ drop 1 (cond t ([] ∷ parts semicolon bs) (onHead b (parts semicolon bs)))
-    by ih true = refl
-    by ih false = rw ih
 
 -- tails that agree agree further on
 rest-on : (x y : List ℕ) (n m : ℕ) → n ≤ m → drop n x ≡ drop n y → drop m x ≡ drop m y
@@ -78,7 +65,7 @@ module _ {text one₀ two₀ reply₀ : List ℕ} {p₀ : Progress} {one two rep
       let k : e - a ≡ span semicolon (drop a text) = omega arith in
       let s : lineAt q one′ two′ reply′ ≡ stepOf (length reply₀) (take (span semicolon (drop a text)) (drop a text)) (lineAt p one two reply) =
       line-at _ q one′ two′ reply′ reply st ∙ rw (v .long, k) in
-      v .same ∙ ap (λ cs. runAll (length reply₀) cs (lineAt p one two reply)) (parts-head (drop a text)) ∙ rw (← s)
+      v .same ∙ ap (λ cs. runAll (length reply₀) cs (lineAt p one two reply)) (parts-first semicolon (drop a text)) ∙ rw (← s)
 
   gone-on : drop (q .at) reply′ ≡ drop (q .at) reply₀
   gone-on = past-written _ q one′ two′ reply′ reply st ∙ rest-on reply reply₀ (p .at) (q .at) on (v .rest)

@@ -1,8 +1,8 @@
 // A line: its commands one after the other, each lent the reply room from the bytes already written onward.
 ghost use mathlib.Core.Path.{_≡_};
 ghost use Prim.Native.Nat.{_+_, _≤_, _<_};
-ghost use lib.ListN.{length, drop};
-ghost use Rattle.divide.specs.Divide.{span, parts};
+ghost use lib.ListN.{length};
+ghost use Rattle.divide.specs.Divide.{parts};
 ghost use Rattle.command.specs.Parsed.{parsedOf};
 ghost use Rattle.line.specs.Perform.{refusedWith, performed, commandOf, Does};
 ghost use Rattle.line.specs.Line.{firstOf, isNoRoom, drops, progressAfter, stepOf, runAll, startLine, semicolon, lineOf, lineAt, Runs};
@@ -173,15 +173,6 @@ fn step(p: Progress, text: &[u8], one: &mut [u32], two: &mut [u32], reply: &mut 
     after(p, d)
 }
 
-// Where the command that starts at a ends.
-fn end_of(text: &[u8], a: usize) -> usize
-    requires { ⌜ a ≤ length (now text) ⌝ }
-    ensures { λ r. ⌜ r ≡ a + span semicolon (drop a (now (text .entry))) ⌝ }
-    ensures { λ r. ⌜ (a ≤ r) × (r ≤ length (now (text .entry))) ⌝ }
-{
-    a + divide::span_of(&text[a..], b';')
-}
-
 // The commands of a cleaned line, one after the other, up to one that is refused by 4.
 fn run(s: State, text: &[u8], one: &mut [u32], two: &mut [u32], reply: &mut [u8]) -> Progress
     requires { ⌜ length (now text) < 257 ⌝ }
@@ -196,7 +187,7 @@ fn run(s: State, text: &[u8], one: &mut [u32], two: &mut [u32], reply: &mut [u8]
     };
     let mut a = 0;
     loop {
-        let e = end_of(text, a);
+        let e = divide::end_of(text, b';', a);
         let next = step(p, &text[a..e], one, two, reply);
         p = next;
         let dropped = p.dropped;

@@ -1,28 +1,16 @@
--- The first part of a text, and the first line of a script. Assumes nothing.
+-- The first line of a script, and the others. Assumes nothing.
 use Prim.Native.Nat.{ℕ, suc, _<_, _≤_}
 use mathlib.Core.Path.{_≡_, refl, ap, _∙_}
-use mathlib.Core.Bool.{Bool, true, false, cond}
+use mathlib.Core.Bool.{Bool, true, false}
 use mathlib.Core.List.{List, [], _∷_}
 use native.Mathlib.Omega.{arith}
-use lib.Dec.{ltb, eqb}
+use lib.Dec.{ltb}
 use lib.ListN.{length, take, drop, drop-of-length-le}
 use lib.Seq.{take-all}
 use borrow.Author.Tests.{ltb-true, ltb-false}
-use Rattle.divide.specs.Divide.{span, parts, onHead}
-use Rattle.divide.proofs.Span.{span-le, parts-more, parts-last}
+use Rattle.divide.specs.Divide.{span, parts}
+use Rattle.divide.proofs.Span.{span-le, parts-first, parts-more, parts-last}
 use Rattle.script.specs.Check.{withoutLast, linesOf}
-
--- the first part, and the others
-pub parts-first : (sep : ℕ) (s : List ℕ) → parts sep s ≡ take (span sep s) s ∷ drop 1 (parts sep s)
-unfolding span parts onHead
-parts-first sep [] = refl
-parts-first sep (b ∷ bs) = by (parts-first sep bs) (eqb b sep)
-  where
-    by : parts sep bs ≡ take (span sep bs) bs ∷ drop 1 (parts sep bs) → (t : Bool) →
-        cond t ([] ∷ parts sep bs) (onHead b (parts sep bs))
-        ≡ take (cond t 0 (suc (span sep bs))) (b ∷ bs) ∷ drop 1 (cond t ([] ∷ parts sep bs) (onHead b (parts sep bs)))
-    by ih true = refl
-    by ih false = rw ih
 
 -- a line that others follow
 more-lines : (l x : List ℕ) (ps xs : List (List ℕ)) → ps ≡ x ∷ xs → withoutLast (l ∷ ps) ≡ l ∷ withoutLast ps

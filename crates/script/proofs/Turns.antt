@@ -6,7 +6,7 @@ use native.Mathlib.Omega.{arith}
 use lib.ListN.{length, take, drop, length-drop}
 use lib.Seq.{drop-drop}
 use Rattle.divide.specs.Divide.{span, parts}
-use Rattle.divide.proofs.Span.{parts-more, parts-last}
+use Rattle.divide.proofs.Span.{parts-first, parts-more, parts-last}
 use Rattle.refusal.specs.declared.Refusal.{Refusal}
 use Rattle.refusal.specs.declared.Outcome.the-variants as outcome
 use Rattle.command.specs.Parsed.{parsedOf}
@@ -17,7 +17,6 @@ use Rattle.line.specs.declared.Answer.the-variants as answer
 use Rattle.script.specs.declared.Both.{Both}
 use Rattle.script.specs.Check.{textRefusal, textAfter, answerAt, textsAnswer, textsAfter}
 use Rattle.script.specs.Given.{Sweeps}
-use Rattle.script.proofs.Parts.{parts-first}
 
 -- what is left of the line answers from here what the whole answers from the start
 pub record OnWay (capacity : ℕ) (text : List ℕ) (b₀ : Both) (b : Both) (place a : ℕ) : Type 0 where

@@ -1,8 +1,8 @@
 // The script check: whether any bench can refuse a command of a script, found without running it.
 ghost use mathlib.Core.Path.{_≡_};
 ghost use Prim.Native.Nat.{_+_, _/_, _≤_, _<_};
-ghost use lib.ListN.{length, drop};
-ghost use Rattle.divide.specs.Divide.{span, parts};
+ghost use lib.ListN.{length};
+ghost use Rattle.divide.specs.Divide.{parts};
 ghost use Rattle.command.specs.Parsed.{parsedOf};
 ghost use Rattle.settings.specs.Frequency.{hertz};
 ghost use Rattle.line.specs.Line.{semicolon, textsOf};
@@ -177,15 +177,6 @@ fn text_after(capacity: u32, p: Parsed, b: Both) -> Both
     }
 }
 
-// Where the part that starts at a ends.
-fn end_of(text: &[u8], separator: u8, a: usize) -> usize
-    requires { ⌜ a ≤ length (now text) ⌝ }
-    ensures { λ r. ⌜ r ≡ a + span separator (drop a (now (text .entry))) ⌝ }
-    ensures { λ r. ⌜ (a ≤ r) × (r ≤ length (now (text .entry))) ⌝ }
-{
-    a + divide::span_of(&text[a..], separator)
-}
-
 // The commands of a cleaned line, up to one that is refused.
 fn sweep(capacity: u32, b: Both, text: &[u8]) -> Swept
     requires { ⌜ length (now text) < 257 ⌝ }
@@ -195,7 +186,7 @@ fn sweep(capacity: u32, b: Both, text: &[u8]) -> Swept
     let mut place = 1;
     let mut a = 0;
     loop {
-        let e = end_of(text, b';', a);
+        let e = divide::end_of(text, b';', a);
         let p = command::parse(&text[a..e]);
         let outcome = text_refusal(p, both);
         if let Outcome::Refused(refusal) = outcome {
@@ -246,7 +237,7 @@ fn check_lines(capacity: u32, script: &[u8]) -> Verdict
     let mut line = 1;
     let mut a = 0;
     while a < script.len() {
-        let e = end_of(script, b'\n', a);
+        let e = divide::end_of(script, b'\n', a);
         if clean::LINE < e - a {
             return Verdict::No(line, 0, Refusal::LongScriptLine);
         }

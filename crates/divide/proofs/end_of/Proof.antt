@@ -1,14 +1,13 @@
--- `line::end_of` meets its contract. Assumes nothing.
+-- `divide::end_of` meets its contract. Assumes nothing.
 use Prim.Native.Nat.{_≤_}
 use mathlib.Core.Path.{_≡_}
 use lib.ListN.{length, drop, length-drop}
 use native.Mathlib.Omega.{arith}
 use borrow.Author.Needs.{needs}
 use Rattle.divide.specs.Divide.{span}
-use Rattle.line.specs.Line.{semicolon}
 use Rattle.divide.proofs.Span.{rest-from}
-use Rattle.line.proofs.end_of.Statement.{statement}
-use Rattle.line.proofs.end_of.Tie as tie
+use Rattle.divide.proofs.end_of.Statement.{statement}
+use Rattle.divide.proofs.end_of.Tie as tie
 
 sub-span-of : tie.Need-sub-span-of
 sub-span-of c = search needs
@@ -27,9 +26,9 @@ add-result c = search needs
 
 returns : tie.Need-returns
 returns c = let k = c .before .before .before .args in
-    let e : c .span-of .result ≡ span semicolon (drop (k .a) (k .text .now)) = rw (rest-from (k .text .now) (k .a)) at (c .span-of .ensures .0) in
-    let l : c .span-of .result ≤ length (drop (k .a) (k .text .now)) = rw (rest-from (k .text .now) (k .a)) at (c .span-of .ensures .1) in
-    let n = length-drop (k .a) (k .text .now) in
+    let e : c .span-of .result ≡ span (k .separator) (drop (k .a) (k .s .now)) = rw (rest-from (k .s .now) (k .a)) at (c .span-of .ensures .0) in
+    let l : c .span-of .result ≤ length (drop (k .a) (k .s .now)) = rw (rest-from (k .s .now) (k .a)) at (c .span-of .ensures .1) in
+    let n = length-drop (k .a) (k .s .now) in
     (rw e, (omega arith, omega arith))
 
 pub end-of-spec : {M : Type 1} → statement M
