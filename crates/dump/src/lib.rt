@@ -2,7 +2,6 @@
 use lockin::Module;
 use queue::Queue;
 use settings::Settings;
-use state::Moving;
 use state::Pair;
 use state::State;
 use state::Unit;
@@ -93,36 +92,24 @@ fn put_pair(out: &mut [u8], at: usize, pair: Pair) -> usize {
     put_word(out, end, b",", pair.two)
 }
 
-// A text and a register.
-fn put_register(out: &mut [u8], at: usize, name: &[u8], value: u8) -> usize {
-    put_named(out, at, name, value as u32)
-}
-
 fn put_registers(out: &mut [u8], at: usize, r: Registers) -> usize {
-    let standard = put_register(out, at, b" esr=", r.standard);
-    let lia = put_register(out, standard, b" lia=", r.lia);
-    put_register(out, lia, b" err=", r.errors)
+    let standard = put_named(out, at, b" esr=", r.standard as u32);
+    let lia = put_named(out, standard, b" lia=", r.lia as u32);
+    put_named(out, lia, b" err=", r.errors as u32)
 }
 
 fn put_enables(out: &mut [u8], at: usize, e: Enables) -> usize {
-    let standard = put_register(out, at, b" ese=", e.standard);
-    let service = put_register(out, standard, b" sre=", e.service);
-    let lia = put_register(out, service, b" liae=", e.lia);
-    put_register(out, lia, b" erre=", e.errors)
-}
-
-fn put_dropping(out: &mut [u8], at: usize, dropping: bool) -> usize {
-    if dropping {
-        return put_all(out, at, b" dropping=1");
-    }
-    put_all(out, at, b" dropping=0")
+    let standard = put_named(out, at, b" ese=", e.standard as u32);
+    let service = put_named(out, standard, b" sre=", e.service as u32);
+    let lia = put_named(out, service, b" liae=", e.lia as u32);
+    put_named(out, lia, b" erre=", e.errors as u32)
 }
 
 fn put_queue(out: &mut [u8], at: usize, q: Queue) -> usize {
     let bytes = q.bytes;
     let name = put_all(out, at, b" queue=");
     let end = terminal::put_bytes(out, name, terminal::first_of(&bytes, q.len));
-    put_dropping(out, end, q.dropping)
+    put_named(out, end, b" dropping=", q.dropping as u32)
 }
 
 // The words behind a trace's first.
@@ -144,26 +131,14 @@ fn put_trace(out: &mut [u8], at: usize, name: &[u8], trace: &[u32]) -> usize {
     put_words(out, end, trace)
 }
 
-fn put_settled(out: &mut [u8], at: usize, s: State) -> usize {
+fn put_state(out: &mut [u8], at: usize, s: State) -> usize {
     let moving = s.moving;
     let unit = put_unit(out, at, s.unit);
-    put_settings(out, unit, s.settings, moving.external)
-}
-
-fn put_moving(out: &mut [u8], at: usize, moving: Moving, latest: Pair) -> usize {
-    let end = put_storage(out, at, moving.storage);
-    put_pair(out, end, latest)
-}
-
-fn put_status(out: &mut [u8], at: usize, s: State) -> usize {
-    let end = put_registers(out, at, s.registers);
-    put_enables(out, end, s.enables)
-}
-
-fn put_state(out: &mut [u8], at: usize, s: State) -> usize {
-    let settled = put_settled(out, at, s);
-    let moving = put_moving(out, settled, s.moving, s.latest);
-    put_status(out, moving, s)
+    let settings = put_settings(out, unit, s.settings, moving.external);
+    let storage = put_storage(out, settings, moving.storage);
+    let pair = put_pair(out, storage, s.latest);
+    let registers = put_registers(out, pair, s.registers);
+    put_enables(out, registers, s.enables)
 }
 
 // The whole text behind the bytes that wait in a buffer, as `terminal` puts it.

@@ -1,17 +1,7 @@
 // The program ops: operations on standard input, one a line, on one module, and an answer to each on standard output, by docs/ops-protocol.md.
-mod calls;
-mod operation;
-mod read;
-mod scripts;
-mod start;
 
 use libc::STDIN_FILENO;
 use lockin::Module;
-
-// A line with more bytes is no operation.
-const LINE_LIMIT: usize = 131072;
-
-const SLOTS: usize = read::SLOTS as usize;
 
 // The module, and how many bytes there are of a line that has not ended, one past the limit where they are too many.
 struct Held {
@@ -25,22 +15,6 @@ struct Turn {
     more: bool,
 }
 
-// Puts a part of a line behind the bytes that there are of it, and gives how many there are then.
-fn append(line: &mut [u8], len: usize, part: &[u8]) -> usize {
-    if line.len() < len {
-        return len;
-    }
-    if line.len() - len < part.len() {
-        return LINE_LIMIT + 1;
-    }
-    let mut i = 0;
-    while i < part.len() {
-        line[len + i] = part[i];
-        i += 1;
-    }
-    len + part.len()
-}
-
 // The line's end: its answer, none to an empty line.
 fn end_line(held: Held, line: &[u8], one: &mut [u32], two: &mut [u32]) -> Held {
     let m = held.current;
@@ -49,7 +23,7 @@ fn end_line(held: Held, line: &[u8], one: &mut [u32], two: &mut [u32]) -> Held {
         return held;
     }
     if line.len() < len {
-        operation::refuse();
+        calls::refuse();
         return Held { current: m, len: 0 };
     }
     Held {
@@ -71,7 +45,7 @@ fn take_chunk(
     loop {
         let rest = &chunk[start..];
         let n = divide::span_of(rest, b'\n');
-        held.len = append(line, held.len, &rest[0..n]);
+        held.len = operations::append(line, held.len, &rest[0..n]);
         if n == rest.len() {
             return held;
         }
@@ -114,11 +88,11 @@ fn take_all(first: Held, line: &mut [u8], one: &mut [u32], two: &mut [u32]) -> H
 }
 
 fn main() {
-    let mut line = [0u8; LINE_LIMIT];
-    let mut one = [0u32; SLOTS];
-    let mut two = [0u32; SLOTS];
+    let mut line = operations::line_buffer();
+    let mut one = operations::trace_buffer();
+    let mut two = operations::trace_buffer();
     let first = Held {
-        current: start::refused(),
+        current: calls::refused(),
         len: 0,
     };
     let last = take_all(first, &mut line, &mut one, &mut two);

@@ -48,7 +48,7 @@ fn resets(kind: Kind) -> bool
 }
 
 // The highest frequency that is taken with a harmonic.
-fn highest(harmonic: u32) -> u32
+pub fn highest(harmonic: u32) -> u32
     ensures { λ r. ⌜ r ≡ hertz 102000 / harmonic ⌝ }
 {
     if harmonic == 0 {

@@ -1,7 +1,4 @@
 // The operation `start`: a fresh module over traces whose words are all 0.
-use crate::operation;
-use crate::read;
-use crate::read::Start;
 use lockin::Module;
 
 // The module of a refused start.
@@ -19,24 +16,30 @@ fn clear(trace: &mut [u32]) {
     }
 }
 
-fn begin(serial: u32, port: u32, one: &[u32], two: &[u32]) -> Module {
+fn begin_with(serial: u32, port: u32, one: &[u32], two: &[u32]) -> Module {
     let started = lockin::start(serial, port, one, two);
     let outcome = started.outcome;
-    operation::tell(b"R ", refusal::number_of(outcome));
+    crate::tell_number(b"R ", refusal::number_of(outcome));
     started.after
 }
 
-pub fn perform(m: Module, text: &[u8], start: usize, one: &mut [u32], two: &mut [u32]) -> Module {
-    let Start::Asked(serial, port, first, second) = read::start_of(text, start) else {
-        return operation::wrong(m);
-    };
+// Clears the traces, and starts a module over the first words of each.
+pub fn start(
+    m: Module,
+    serial: u32,
+    port: u32,
+    first: usize,
+    second: usize,
+    one: &mut [u32],
+    two: &mut [u32],
+) -> Module {
     if one.len() < first {
-        return operation::wrong(m);
+        return crate::wrong(m);
     }
     if two.len() < second {
-        return operation::wrong(m);
+        return crate::wrong(m);
     }
     clear(one);
     clear(two);
-    begin(serial, port, &one[0..first], &two[0..second])
+    begin_with(serial, port, &one[0..first], &two[0..second])
 }

@@ -1,9 +1,9 @@
--- `ops::read::same` is safe and ends: the index stays within the text. Assumes nothing.
+-- `operations::same` is safe and ends: the index stays within the text. Assumes nothing.
 use Prim.Native.Nat.{_≤_, _-_}
 use lib.ListN.{length}
 use borrow.Author.Needs.{needs}
-use Rattle.ops.proofs.read.same.Statement.{statement}
-use Rattle.ops.proofs.read.same.Tie as tie
+use Rattle.operations.proofs.same.Statement.{statement}
+use Rattle.operations.proofs.same.Tie as tie
 
 abbrev Inv-loop : tie.InvT-loop
 Inv-loop a b i₀ i = i ≤ length a

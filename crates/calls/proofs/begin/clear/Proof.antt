@@ -1,10 +1,10 @@
--- `ops::start::clear` is safe and ends: the trace keeps its length, the index stays within it. Assumes nothing.
+-- `calls::begin::clear` is safe and ends: the trace keeps its length, the index stays within it. Assumes nothing.
 use Prim.Native.Nat.{_≤_, _-_}
 use mathlib.Core.Path.{_≡_}
 use lib.ListN.{length}
 use borrow.Author.Needs.{needs}
-use Rattle.ops.proofs.start.clear.Statement.{statement}
-use Rattle.ops.proofs.start.clear.Tie as tie
+use Rattle.calls.proofs.begin.clear.Statement.{statement}
+use Rattle.calls.proofs.begin.clear.Tie as tie
 
 abbrev Inv-loop : tie.InvT-loop
 Inv-loop trace₀ i₀ trace i = (length trace ≡ length trace₀) × (i ≤ length trace₀)

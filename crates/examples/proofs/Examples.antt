@@ -1,0 +1,61 @@
+-- The table's rows, proved together by computation: each side of a row computes to the other. Assumes nothing.
+use mathlib.Core.Path.{refl}
+use lib.Count.{leadingZeros}
+use Rattle.divide.specs.Divide.{span, onHead, parts}
+use Rattle.number.specs.Number.{allDigits, begins, unsigned, isMantissa, isNumber}
+use Rattle.number.specs.Value.{decimalAfter, exactOf, inRange, argumentOf}
+use Rattle.clean.specs.Clean.{cleaned}
+use Rattle.name.specs.Names.{meaningIn}
+use Rattle.point.specs.Single.{pattern}
+use Rattle.point.specs.Point.{magnitudeOf, isLegal, highest, singleOf, floatOf}
+use Rattle.point.specs.Bytes.{lowFirst, littleEndian}
+use Rattle.text.specs.Text.{padded, placesIn, plain, fixed, sign, signedText}
+use Rattle.settings.specs.Table as settings
+use Rattle.settings.specs.Frequency.{stepBy, inForce, detectionOf, crossingOf}
+use Rattle.settings.specs.Setting.{turnedAt, settingOf, stepOf}
+use Rattle.settings.specs.Allowed.{keeps, every, keepsAll, allowedOf}
+use Rattle.command.specs.Arguments.{arguments}
+use Rattle.command.specs.Parsed.{one, three, setSetting, queryTrace, alone, setWith, queryWith, parsedOf}
+use Rattle.storage.specs.Storage as storage
+use Rattle.status.specs.Bits.{meets}
+use Rattle.status.specs.Status as status
+use Rattle.reply.specs.Reply.{fitsIn, wordAt, formed, pointBytes}
+use Rattle.state.specs.State.{startState, detectionNow, crossedFrom, markedBy, samplingOf}
+use Rattle.state.specs.Storing.{storedIn}
+use Rattle.state.specs.Allowed.{keepsUnit, keepsLatest, keepsParts, allowedState}
+use Rattle.change.specs.Allows.{keepsLimit, valueAllowed, setAllowed, queryAllowed, allowsOf}
+use Rattle.change.specs.Change.{setIn, restoredBy, settingsAfter, storageBy, storageAfter, movingAfter, changedBy, stateAfter}
+use Rattle.answer.specs.Reply.{valueNow, valueText, textOf, endedText, traceReply, queryReply, replyOf}
+use Rattle.line.specs.Perform.{doneBy, performed, commandOf}
+use Rattle.line.specs.Line as line
+use Rattle.event.specs.Event.{withLatest, legalPair, pairTaken, eventOf}
+use Rattle.queue.specs.Queue as queue
+use Rattle.lockin.specs.Start.{unitKnown, tracesFit, freshModule, startOf}
+use Rattle.lockin.specs.Calls.{numbered, numbersOf, allowedModule, guardOf, guarded, wholeLine, lineCall, guardedEvent, eventCall}
+use Rattle.script.specs.Check.{resets, measuredHigh, triggeredHigh, gapOf, kindRefusal, textRefusal, kindAfter, textAfter}
+use Rattle.script.specs.Check.{answerAt, textsAnswer, textsAfter, verdictOf, linesVerdict, withoutLast, checkOf}
+use Rattle.examples.specs.Examples.{lineSeen, low16, wordOf, floatSeen, verdictSeen, seenOf, table, Examples}
+
+-- every definition that an example runs through is unfolded, from the text of a number up to the calls
+pub examples : Examples
+unfolding span onHead parts allDigits begins unsigned isMantissa isNumber decimalAfter exactOf inRange argumentOf
+    cleaned meaningIn arguments one three setSetting queryTrace alone setWith queryWith parsedOf
+    padded placesIn plain fixed sign signedText
+    leadingZeros pattern magnitudeOf isLegal highest singleOf floatOf lowFirst littleEndian fitsIn wordAt formed pointBytes
+    settings.table settings.turnedOf settings.rowOf settings.startSettings stepBy inForce detectionOf crossingOf turnedAt settingOf stepOf
+    keeps every keepsAll allowedOf
+    storage.isReset storage.isRunning storage.isDone storage.startedOf storage.nextSlot storage.heldAfter storage.fullInOneShot storage.storedOf
+    storage.readiedOf storage.triggerStores storage.triggeredOf storage.oldestOf storage.holdsOf storage.slotsKept storage.doneKept storage.resetKept
+    storage.keepsOf meets status.keepsOf
+    startState detectionNow crossedFrom markedBy samplingOf storedIn keepsUnit keepsLatest keepsParts allowedState
+    keepsLimit valueAllowed setAllowed queryAllowed allowsOf
+    setIn restoredBy settingsAfter storageBy storageAfter movingAfter changedBy stateAfter
+    valueNow valueText textOf endedText traceReply queryReply replyOf
+    doneBy performed commandOf line.firstOf line.isNoRoom line.drops line.afterOf line.stepOf line.runAll line.lineOf
+    withLatest legalPair pairTaken eventOf queue.noEnd queue.keepsOf
+    unitKnown tracesFit freshModule startOf
+    numbered numbersOf allowedModule guardOf guarded wholeLine lineCall guardedEvent eventCall
+    resets measuredHigh triggeredHigh gapOf kindRefusal textRefusal kindAfter textAfter answerAt textsAnswer textsAfter
+    verdictOf linesVerdict withoutLast checkOf
+    lineSeen low16 wordOf floatSeen verdictSeen seenOf table
+examples = (refl, (refl, (refl, (refl, (refl, (refl, (refl, (refl, (refl, (refl, (refl, (refl, (refl, (refl, (refl, (refl, tt))))))))))))))))
