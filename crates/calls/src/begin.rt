@@ -16,13 +16,6 @@ fn clear(trace: &mut [u32]) {
     }
 }
 
-fn begin_with(serial: u32, port: u32, one: &[u32], two: &[u32]) -> Module {
-    let started = lockin::start(serial, port, one, two);
-    let outcome = started.outcome;
-    crate::tell_number(b"R ", refusal::number_of(outcome));
-    started.after
-}
-
 // Clears the traces, and starts a module over the first words of each.
 pub fn start(
     m: Module,
@@ -41,5 +34,8 @@ pub fn start(
     }
     clear(one);
     clear(two);
-    begin_with(serial, port, &one[0..first], &two[0..second])
+    let started = lockin::start(serial, port, &one[0..first], &two[0..second]);
+    let outcome = started.outcome;
+    crate::tell_number(b"R ", refusal::number_of(outcome));
+    started.after
 }

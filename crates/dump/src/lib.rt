@@ -12,6 +12,9 @@ use storage::Storage;
 use terminal::put_all;
 use terminal::put_named;
 
+// How many digits a word has.
+const WORD_DIGITS: usize = 8;
+
 // A setting's name at its first entry, spaces at each other.
 const NAMES: [u8; 136] =
     *b"phasfmodfreqrslpharmslvlisrcilinofsligndicplsyncsensrmodofltddef            fpop    oexp                    auxv            sratsendtstr";
@@ -84,7 +87,7 @@ fn put_storage(out: &mut [u8], at: usize, s: Storage) -> usize {
 // A text and a word.
 fn put_word(out: &mut [u8], at: usize, name: &[u8], word: u32) -> usize {
     let end = put_all(out, at, name);
-    terminal::put_word(out, end, word)
+    terminal::put_hex(out, end, word as u64, WORD_DIGITS)
 }
 
 fn put_pair(out: &mut [u8], at: usize, pair: Pair) -> usize {

@@ -3,6 +3,9 @@ ghost use Prim.Native.Nat.{_≤_};
 use crate::output::put;
 use crate::output::put_all;
 
+// How many digits a byte has.
+const BYTE_DIGITS: usize = 2;
+
 // How many bytes a text in hex stands for.
 pub enum Decoded {
     Bytes(usize),
@@ -25,18 +28,6 @@ pub fn digit_of(b: u8) -> u8
     }
 }
 
-// The byte of two digits.
-fn pair_of(first: u8, second: u8) -> Pair {
-    let high = digit_of(first);
-    let low = digit_of(second);
-    if high < 16 {
-        if low < 16 {
-            return Pair::Byte(high * 16 + low);
-        }
-    }
-    Pair::Wrong
-}
-
 // Puts the bytes of pairs of digits at the start of a buffer.
 fn decode_pairs(text: &[u8], n: usize, bytes: &mut [u8]) -> Decoded {
     let mut i = 0;
@@ -53,11 +44,19 @@ fn decode_pairs(text: &[u8], n: usize, bytes: &mut [u8]) -> Decoded {
     Decoded::Bytes(n)
 }
 
+// The byte of the pair of digits that has so many others before it.
 fn pair_at(text: &[u8], i: usize) -> Pair {
     if text.len() / 2 <= i {
         return Pair::Wrong;
     }
-    pair_of(text[2 * i], text[2 * i + 1])
+    let high = digit_of(text[2 * i]);
+    let low = digit_of(text[2 * i + 1]);
+    if high < 16 {
+        if low < 16 {
+            return Pair::Byte(high * 16 + low);
+        }
+    }
+    Pair::Wrong
 }
 
 // Puts the bytes of a text in hex, `-` where there are none, at the start of a buffer.
@@ -77,19 +76,14 @@ pub fn decode(text: &[u8], bytes: &mut [u8]) -> Decoded {
 }
 
 // A number in hex with so many digits at least.
-fn put_digits(out: &mut [u8], at: usize, value: u64, least: usize) -> usize {
+pub fn put_hex(out: &mut [u8], at: usize, value: u64, least: usize) -> usize {
     let mut digits = [0u8; 16];
     let n = io::hex(value, least, &mut digits);
     put_all(out, at, &digits[0..n])
 }
 
-// A word, with eight digits.
-pub fn put_word(out: &mut [u8], at: usize, word: u32) -> usize {
-    put_digits(out, at, word as u64, 8)
-}
-
 fn put_pair(out: &mut [u8], at: usize, b: u8) -> usize {
-    put_digits(out, at, b as u64, 2)
+    put_hex(out, at, b as u64, BYTE_DIGITS)
 }
 
 fn put_pairs(out: &mut [u8], at: usize, bytes: &[u8]) -> usize {

@@ -12,7 +12,7 @@ pub use field::word_at;
 pub use hex::Decoded;
 pub use hex::decode;
 pub use hex::put_bytes;
-pub use hex::put_word;
+pub use hex::put_hex;
 pub use output::end_line;
 pub use output::first_of;
 pub use output::flush;

@@ -14,22 +14,18 @@ pub fn flush(out: &[u8], len: usize) {
     io::write_all(STDOUT_FILENO, first_of(out, len));
 }
 
-// Writes the bytes that wait where no other fits behind them, and gives how many still wait.
-fn make_room(out: &[u8], len: usize) -> usize {
-    if len < out.len() {
-        return len;
-    }
-    flush(out, len);
-    0
-}
-
+// Puts a byte. Where no other fits behind those that wait, these are written first.
 pub fn put(out: &mut [u8], at: usize, b: u8) -> usize {
-    let start = make_room(out, at);
-    if start < out.len() {
-        out[start] = b;
-        return start + 1;
+    if at < out.len() {
+        out[at] = b;
+        return at + 1;
     }
-    start
+    flush(out, at);
+    if out.len() == 0 {
+        return 0;
+    }
+    out[0] = b;
+    1
 }
 
 // Writes the bytes that wait and a line's end.

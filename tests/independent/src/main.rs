@@ -4,6 +4,7 @@ mod argument;
 mod bench;
 mod command;
 mod compare;
+mod course;
 mod decimal;
 mod frequency;
 mod hex;
@@ -20,7 +21,7 @@ mod setting;
 mod table;
 
 use std::fs;
-use std::io::{self, BufRead, BufWriter, Write};
+use std::io::{self, BufRead, BufWriter, Read, Write};
 use std::process::ExitCode;
 use std::str::FromStr;
 
@@ -36,7 +37,15 @@ const USAGE: &str = "usage: independent COMMAND
   ops-show OPS               prints a file of operations with the texts that their hex stands for
   ops-shrink PROGRAM OPS     prints a short stream of operations that PROGRAM answers differently
   bench                      feeds standard input to a module and writes its replies
-  bench-random SEED COUNT    prints COUNT random lines for the bench program";
+  bench-random SEED COUNT    prints COUNT random lines for the bench program
+  check-program              checks a script: its capacity on line one of standard input, then the script
+  why-program                says the same, and after a refusal by 3 the operations of a course that shows it
+  scripts-random SEED COUNT  prints COUNT random scripts, as check operations
+  script-inputs SEED COUNT DIRECTORY
+                             writes COUNT random scripts to files there, as inputs of the check program
+  script-long SEED BYTES     prints a script of BYTES bytes that passes at capacity 4
+  courses SEED COUNT TRIES   confirms the check of COUNT random scripts by TRIES random courses each
+  witness INPUT SAID ANSWERS tests what a why program said to an input, by the answers to its operations";
 
 fn main() -> ExitCode {
     let words: Vec<String> = std::env::args().skip(1).collect();
@@ -60,6 +69,15 @@ fn run(words: &[&str]) -> Result<(), String> {
             println!("{compared} answers agree");
             Ok(())
         }
+        ["bench"] => bench::bench(io::stdin().lock(), &mut BufWriter::new(io::stdout().lock())).map_err(told),
+        ["bench-random", seed, count] => write(&random::bench::input(number(seed)?, number(count)?)),
+        [command, ..] if command.starts_with("ops") => run_operations(words),
+        _ => run_scripts(words),
+    }
+}
+
+fn run_operations(words: &[&str]) -> Result<(), String> {
+    match words {
         ["ops"] => {
             let mut session = ops::Session::new();
             answer(|operation| session.answer(operation))
@@ -76,9 +94,35 @@ fn run(words: &[&str]) -> Result<(), String> {
             )
         }
         ["ops-shrink", program, operations] => shrink(program, operations),
-        ["bench"] => bench::bench(io::stdin().lock(), &mut BufWriter::new(io::stdout().lock())).map_err(told),
-        ["bench-random", seed, count] => {
-            io::stdout().write_all(&random::bench::input(number(seed)?, number(count)?)).map_err(told)
+        _ => Err(USAGE.to_string()),
+    }
+}
+
+fn run_scripts(words: &[&str]) -> Result<(), String> {
+    match words {
+        ["check-program"] => write((script::text(&script::program::verdict(&input()?)) + "\n").as_bytes()),
+        ["why-program"] => write(course::witness::why(&input()?)?.as_bytes()),
+        ["scripts-random", seed, count] => {
+            let scripts = random::deep::Scripts::new(number(seed)?).take(number(count)?);
+            print_bytes(scripts.map(|case| case.operation().to_string().into_bytes()))
+        }
+        ["script-inputs", seed, count, directory] => {
+            let scripts = random::deep::Scripts::new(number(seed)?).take(number(count)?);
+            scripts
+                .zip(1..)
+                .try_for_each(|(case, at)| fs::write(format!("{directory}/{at:04}.input"), case.input()).map_err(told))
+        }
+        ["script-long", seed, bytes] => {
+            write(&random::deep::long(number(seed)?, number(bytes)?).ok_or("no script is so short")?)
+        }
+        ["courses", seed, count, tries] => {
+            println!("{}", course::confirm::confirm(number(seed)?, number(count)?, number(tries)?)?);
+            Ok(())
+        }
+        ["witness", input, said, answers] => {
+            let operations = course::witness::test(&contents(input)?, &contents(said)?, &contents(answers)?)?;
+            println!("{operations} operations");
+            Ok(())
         }
         _ => Err(USAGE.to_string()),
     }
@@ -90,6 +134,17 @@ fn told(error: io::Error) -> String {
 
 fn number<T: FromStr>(word: &str) -> Result<T, String> {
     word.parse().map_err(|_| USAGE.to_string())
+}
+
+/// All of standard input.
+fn input() -> Result<Vec<u8>, String> {
+    let mut bytes = Vec::new();
+    io::stdin().lock().read_to_end(&mut bytes).map_err(told)?;
+    Ok(bytes)
+}
+
+fn write(bytes: &[u8]) -> Result<(), String> {
+    io::stdout().write_all(bytes).map_err(told)
 }
 
 fn contents(path: &str) -> Result<Vec<u8>, String> {

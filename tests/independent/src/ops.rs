@@ -18,7 +18,7 @@
 // - HH has exactly 2 such digits, W exactly 8.
 
 pub mod compare;
-mod dump;
+pub mod dump;
 mod session;
 pub mod shrink;
 

@@ -1,7 +1,9 @@
 // Random questions from a seed.
 
 pub mod bench;
+pub mod courses;
 pub mod damaged;
+pub mod deep;
 pub mod generator;
 mod lines;
 mod near;
@@ -9,6 +11,7 @@ pub mod operations;
 pub mod scripts;
 mod settings;
 mod spelling;
+mod states;
 
 use crate::frequency::{LIMIT, SLOW_LIMIT};
 use crate::point::{Point, MOST_EXPONENT};

@@ -135,7 +135,7 @@ pub static VALUES: LazyLock<Vec<Value>> = LazyLock::new(|| {
 });
 
 /// All settings of a state and the last measured external frequency.
-#[derive(Clone, Debug, PartialEq, Eq)]
+#[derive(Clone, Debug, PartialEq, Eq, Hash)]
 pub struct Settings {
     pub entries: [i64; ENTRIES],
     pub external: i64,

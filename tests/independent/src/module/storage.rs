@@ -1,7 +1,7 @@
 // Storage of points. What is kept is the number of points since the last emptying; the points held,
 // the slots and whether storage is done follow from it.
 
-#[derive(Clone, Copy, Debug, PartialEq, Eq)]
+#[derive(Clone, Copy, Debug, PartialEq, Eq, Hash)]
 pub enum Phase {
     Reset,
     Running,
@@ -27,6 +27,17 @@ pub struct Storage {
 impl Storage {
     pub fn empty(capacity: usize) -> Storage {
         Storage { capacity, asked: Asked::Nothing, points: 0 }
+    }
+
+    /// Storage in a phase, so many points after its last emptying. In one shot it has no more than its
+    /// capacity, and is done with these.
+    pub fn in_phase(capacity: usize, phase: Phase, points: usize) -> Storage {
+        match phase {
+            Phase::Reset => Storage::empty(capacity),
+            Phase::Running => Storage { capacity, asked: Asked::ToRun, points },
+            Phase::Paused => Storage { capacity, asked: Asked::ToPause, points },
+            Phase::Done => Storage { capacity, asked: Asked::ToRun, points: capacity },
+        }
     }
 
     pub fn capacity(&self) -> usize {

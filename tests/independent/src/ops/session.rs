@@ -64,10 +64,7 @@ impl Session {
                 "K".to_string()
             }
             Operation::Dump => super::dump::dump(module),
-            Operation::Check { capacity, script } => match script::check(*capacity, script) {
-                Ok(()) => "ok".to_string(),
-                Err(no) => no.to_string(),
-            },
+            Operation::Check { capacity, script } => script::text(&script::check(*capacity, script)),
         }
     }
 }

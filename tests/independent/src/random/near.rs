@@ -4,9 +4,8 @@ use super::generator::Generator;
 use super::lines;
 use crate::command::FORMS;
 use crate::decimal::Decimal;
-use crate::frequency::{DECIMALS, HERTZ, LEAST, LIMIT, SLOW_LIMIT};
+use crate::frequency::{Reference, DECIMALS, HERTZ, LEAST, LIMIT, SLOW_LIMIT};
 use crate::module::Module;
-use crate::setting::HARM;
 
 /// A command chosen with an eye on the module's state.
 pub fn command(generator: &mut Generator, module: &Module) -> Vec<u8> {
@@ -16,9 +15,9 @@ pub fn command(generator: &mut Generator, module: &Module) -> Vec<u8> {
             let form = &FORMS[generator.below(FORMS.len())];
             return lines::lawful(generator, form);
         }
-        6..=8 => reference(generator, module),
+        6..=8 => reference(generator, &module.settings.reference()),
         9..=13 => storage(generator),
-        14 | 15 => trace_read(generator, module),
+        14 | 15 => trace_read(generator, module.storage.held()),
         16..=18 => status(generator),
         _ => generator.pick(&["*IDN?", "FREQ?", "OFLT?", "SPTS?", "*RST", "REST", "", "*CLS"]).to_string(),
     };
@@ -38,26 +37,26 @@ pub fn frequency(generator: &mut Generator, factor: i64) -> i64 {
     (limit / factor + generator.between(-1, 2)).max(0)
 }
 
-fn reference(generator: &mut Generator, module: &Module) -> String {
-    let harmonic = module.settings.entries[HARM];
+/// A command that changes the detection frequency, or is decided by it.
+pub fn reference(generator: &mut Generator, reference: &Reference) -> String {
     match generator.below(8) {
         0 => format!("FMOD {}", generator.between(0, 1)),
         1 => "FMOD 0".to_string(),
         2 | 3 => {
-            let near = frequency(generator, harmonic);
+            let near = frequency(generator, reference.harmonic);
             let wanted = generator.pick(&[near, near, near, 100 * HERTZ, 10 * HERTZ]);
             format!("FREQ {}", Decimal::new(i128::from(wanted), DECIMALS).plain())
         }
         4 | 5 => {
-            let in_force = module.settings.reference().in_force();
-            let near = frequency(generator, in_force);
+            let near = frequency(generator, reference.in_force());
             format!("HARM {}", generator.pick(&[near, near, 1, 2, 102]))
         }
         _ => format!("OFLT {}", generator.between(11, 20)),
     }
 }
 
-fn storage(generator: &mut Generator) -> String {
+/// A command that stores points, or is decided by them.
+pub fn storage(generator: &mut Generator) -> String {
     match generator.below(12) {
         0..=2 => "STRT".to_string(),
         3 => "PAUS".to_string(),
@@ -71,8 +70,8 @@ fn storage(generator: &mut Generator) -> String {
 }
 
 /// A trace read that ends about where the points held end.
-fn trace_read(generator: &mut Generator, module: &Module) -> String {
-    let held = module.storage.held() as i64;
+pub fn trace_read(generator: &mut Generator, held: usize) -> String {
+    let held = held as i64;
     let count = generator.between(1, held.clamp(1, 12));
     let first = match generator.below(4) {
         0 => generator.between(0, held.max(1)),

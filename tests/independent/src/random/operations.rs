@@ -215,7 +215,7 @@ fn burst(generator: &mut Generator, next: &mut VecDeque<Operation>) {
 }
 
 /// Two points, mostly legal.
-fn pair(generator: &mut Generator) -> Operation {
+pub fn pair(generator: &mut Generator) -> Operation {
     let legal = generator.chance(85);
     let mut word = || match point(generator) {
         point if legal && !point.is_legal() => Point::new(point.m(), point.e() / 2).word,
@@ -224,7 +224,8 @@ fn pair(generator: &mut Generator) -> Operation {
     Operation::Pair([word(), word()])
 }
 
-fn measured(generator: &mut Generator, session: &Session) -> Operation {
+/// A measured frequency, legal or not, near a limit of the session's harmonic.
+pub fn measured(generator: &mut Generator, session: &Session) -> Operation {
     let harmonic = session.module.settings.entries[HARM];
     let frequency = match generator.below(10) {
         0 => LEAST + generator.between(-2, 2),
@@ -236,7 +237,8 @@ fn measured(generator: &mut Generator, session: &Session) -> Operation {
     Operation::Measured(frequency as u32)
 }
 
-fn raise(generator: &mut Generator) -> Operation {
+/// Raised bits, legal or not.
+pub fn raise(generator: &mut Generator) -> Operation {
     let [lia, err] = [generator.next() as u8, generator.next() as u8];
     match generator.below(4) {
         0 => Operation::Raise { lia, err },

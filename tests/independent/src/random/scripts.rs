@@ -99,7 +99,8 @@ fn after_reset(generator: &mut Generator) -> Vec<u8> {
     script
 }
 
-fn command(generator: &mut Generator) -> Vec<u8> {
+/// A command that a script's refusals may hang on, now and then any.
+pub fn command(generator: &mut Generator) -> Vec<u8> {
     match generator.below(60) {
         0 => lines::command(generator),
         _ => generator.pick(COMMANDS).as_bytes().to_vec(),

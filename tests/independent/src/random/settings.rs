@@ -58,6 +58,16 @@ fn external(generator: &mut Generator) -> i64 {
     }
 }
 
+/// Settings that a state may hold, often just at a limit.
+pub fn surely_allowed(generator: &mut Generator) -> Settings {
+    loop {
+        let settings = allowed(generator);
+        if settings.are_allowed() {
+            return settings;
+        }
+    }
+}
+
 /// Settings that are mostly allowed together, often just at a limit.
 fn allowed(generator: &mut Generator) -> Settings {
     let mut settings = Settings::start();

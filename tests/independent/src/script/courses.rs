@@ -100,7 +100,7 @@ impl Courses {
             ("FMOD", _, &[mode]) => self.change(Alike { is_internal: mode == 1, ..self.alike.clone() }),
             ("HARM", _, &[harmonic]) => self.change(Alike { harmonic, ..self.alike.clone() }),
             ("OFLT", _, &[time_constant]) => {
-                let detection = self.highest(&self.alike).detection();
+                let detection = self.reference().detection();
                 self.need(frequency::allows_time_constant(detection, time_constant))
             }
             ("SEND", _, &[mode]) => {
@@ -121,6 +121,16 @@ impl Courses {
                 Ok(())
             }
         }
+    }
+
+    /// What decides the detection frequency, in the courses with the highest external frequency.
+    pub fn reference(&self) -> Reference {
+        self.highest(&self.alike)
+    }
+
+    /// The fewest points that a course holds.
+    pub fn fewest_held(&self) -> usize {
+        self.points.phases().into_iter().filter_map(Counts::least).min().expect("there is a course")
     }
 
     fn need(&self, is_allowed: bool) -> Result<(), Refusal> {
@@ -180,10 +190,6 @@ impl Courses {
             Phase::Done => &self.points.done,
         };
         counts.contains(held)
-    }
-
-    fn fewest_held(&self) -> usize {
-        self.points.phases().into_iter().filter_map(Counts::least).min().expect("there is a course")
     }
 }
 

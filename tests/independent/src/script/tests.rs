@@ -10,10 +10,7 @@ use crate::random::scripts;
 use crate::setting::HARM;
 
 fn said(capacity: usize, script: &str) -> String {
-    match check(capacity, script.as_bytes()) {
-        Ok(()) => "ok".to_string(),
-        Err(no) => no.to_string(),
-    }
+    text(&check(capacity, script.as_bytes()))
 }
 
 #[test]
@@ -78,32 +75,32 @@ fn events_fall_between_lines_and_not_inside() {
 struct Search {
     capacity: usize,
     modules: Vec<Module>,
-    courses: Option<Courses>,
+    walk: Walk,
 }
 
 impl Search {
     fn new(capacity: usize) -> Search {
-        Search { capacity, modules: vec![Module::start(1, 1, [capacity; 2]).unwrap()], courses: None }
+        let modules = vec![Module::start(1, 1, [capacity; 2]).unwrap()];
+        Search { capacity, modules, walk: Walk::new(capacity) }
     }
 
     /// Every event that can matter, in any order, until no new state comes; then the line. The first
     /// refusal of any course, as the search and as the check have it.
     fn line(&mut self, text: &[u8]) -> [Option<(usize, Refusal)>; 2] {
         close_under_events(&mut self.modules);
-        self.courses.iter_mut().for_each(Courses::let_events_fall);
+        self.walk.begin_line();
         let answers = self.modules.iter_mut().map(|module| module.line(text, usize::MAX));
         let refused = answers.filter_map(|answer| answer.refusal.map(|refusal| (answer.place, refusal)));
         let found = refused.min_by_key(|&(place, _)| place);
         let mut places = command::read_line(text).into_iter().zip(1..);
-        let checked = places
-            .find_map(|(reading, place)| step(self.capacity, &mut self.courses, reading).err().map(|no| (place, no)));
+        let checked = places.find_map(|(reading, place)| self.walk.take(&reading).err().map(|no| (place, no)));
         [found, checked]
     }
 
     /// Whether the check's sets, once there are any, hold exactly the phases and points that the search has.
     fn sets_agree(&self) -> bool {
         let phases = [Phase::Reset, Phase::Running, Phase::Paused, Phase::Done];
-        let Some(courses) = &self.courses else { return true };
+        let Some(courses) = self.walk.courses() else { return true };
         phases.into_iter().all(|phase| {
             (0..=self.capacity).all(|held| {
                 let has = |module: &Module| module.phase() == phase && module.storage.held() == held;

@@ -1,0 +1,18 @@
+-- What is kept of an input is enough: the programs say of it what document 01 says of the whole input.
+use Prim.Native.Nat.{ℕ, _<_}
+use mathlib.Core.Path.{_≡_}
+use mathlib.Core.List.{List, _++_}
+use lib.ListN.{length, take}
+use Rattle.script.specs.declared.Verdict.{Verdict}
+use Rattle.script_input.specs.Input.{scriptLimit, limitedCheck, saidOf}
+use Rattle.script_input.specs.Taken.{Held, held, startInput, allTaken}
+
+-- what the programs say of what is kept
+abbrev pub saidFrom : Held → Verdict
+saidFrom h = limitedCheck (h .input .capacity) (take (h .input .len) (h .script))
+
+pub record Whole : Type 0 where
+  -- however the input comes in pieces
+  pub pieces : (first second : List ℕ) (h : Held) → allTaken (first ++ second) h ≡ allTaken second (allTaken first h)
+  -- whatever stood in the lent bytes
+  pub said : (input lent : List ℕ) → scriptLimit < length lent → saidFrom (allTaken input (held startInput lent)) ≡ saidOf input

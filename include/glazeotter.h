@@ -1,0 +1,71 @@
+/* The script check of the lock-in module, for a console in C.
+ *
+ * Link with libconsole.a, which `rt staticlib console` writes to target/staticlib/.
+ *
+ * The check's own proofs are in Rattle (crates/console, crates/script, crates/courses).
+ * They cover neither this header nor a caller in C: that the arguments are as asked below
+ * is the caller's part.
+ */
+#ifndef GLAZEOTTER_H
+#define GLAZEOTTER_H
+
+#include <stddef.h>
+#include <stdint.h>
+
+#ifdef __cplusplus
+extern "C" {
+#endif
+
+/* Whether any bench with traces of this capacity can refuse a command of this script.
+ *
+ * script     the script's bytes: lines ended by LF, the last may lack it; no NUL is needed at
+ *            the end. It must not be NULL, even where length is 0: an empty script is
+ *            handed over as a pointer to any byte of the caller's, and that byte is not read.
+ * length     how many bytes; any number, 0 too.
+ * capacity   the capacity of both traces; any number: one that is not 1 to 16383 is refusal 9.
+ *
+ * The bytes are only read, and only during the call: nothing is written to them and no
+ * pointer to them is kept. Nobody else may write them meanwhile. Nothing is kept from one call to
+ * the next, and no heap is used.
+ *
+ * The answer is 0 where no bench can refuse a command of the script. Else it holds the line, the place
+ * and the refusal of the first command, or line, that is refused: read them by the three
+ * functions below.
+ */
+uint64_t glazeotter_check(const uint8_t *script, size_t length, uint32_t capacity);
+
+/* The refusals that the check gives. */
+#define GLAZEOTTER_MALFORMED 1        /* no command: unknown name, wrong form, count or number text, "?" missing or unwanted */
+#define GLAZEOTTER_OUT_OF_RANGE 2     /* a value out of range or not whole */
+#define GLAZEOTTER_NOT_ALLOWED 3      /* not allowed in a state that some bench can be in */
+#define GLAZEOTTER_NO_RESET 7         /* the script does not begin with *RST */
+#define GLAZEOTTER_LONG_SCRIPT_LINE 8 /* a line over 256 bytes; place 0 */
+#define GLAZEOTTER_BAD_CAPACITY 9     /* a capacity that is not 1 to 16383; line 0, place 0 */
+
+/* The line, counted from 1: bits 24 to 63 of the answer. It is 0 for refusal 9.
+ * A line past 1099511627775 (2^40 - 1) is told as 1099511627775; a script shorter than 2^40
+ * bytes has no such line. */
+static inline uint64_t glazeotter_line(uint64_t answer)
+{
+    return answer / 16777216u;
+}
+
+/* The place of the command in its line, counted from 1: bits 8 to 23. It is 0 for refusals 8
+ * and 9, which name no command. A place past 65535 would be told as 65535; a line of at
+ * most 256 bytes has at most 257 commands. */
+static inline uint32_t glazeotter_place(uint64_t answer)
+{
+    return (uint32_t)(answer / 256u % 65536u);
+}
+
+/* The refusal's number: bits 0 to 7. It is 0 exactly where the whole answer is 0. */
+static inline uint32_t glazeotter_refusal(uint64_t answer)
+{
+    return (uint32_t)(answer % 256u);
+}
+
+#ifdef __cplusplus
+}
+#endif
+
+#endif
