@@ -334,6 +334,9 @@ fn keeps_in(entry: usize, value: u32, least: u32, most: u32, step: u32) -> bool
     if entry == FREQ {
         return value % frequency_step(value as u64) == 0;
     }
+    if step == 1 {
+        return true;
+    }
     value % step == 0
 }
 

@@ -1,5 +1,6 @@
 -- `settings::keeps_in` meets its contract. Assumes nothing.
 use lib.Dec.{ltb}
+use native.Mathlib.Nat.{mod-one}
 use native.Mathlib.Omega.{arith}
 use borrow.Author.Tests.{le-leb, lt-leb, eq-eqb, ne-eqb}
 use borrow.Author.Needs.{needs}
@@ -26,12 +27,16 @@ returns-3 : tie.Need-returns-3
 unfolding keepsIn
 returns-3 c = rw (c .frequency-step .ensures, le-leb _ _ (c .before .before .before .if1 .left), le-leb _ _ (c .before .before .if2 .left), eq-eqb _ _ (c .before .if3 .taken))
 
+returns-4 : tie.Need-returns-4
+unfolding keepsIn
+returns-4 c = rw (le-leb _ _ (c .before .before .before .if1 .left), le-leb _ _ (c .before .before .if2 .left), ne-eqb _ _ (c .before .if3 .left), c .if4 .taken, mod-one (c .before .before .before .before .args .value))
+
 rem-result-2 : tie.Need-rem-result-2
 rem-result-2 c = search needs
 
-returns-4 : tie.Need-returns-4
+returns-5 : tie.Need-returns-5
 unfolding keepsIn
-returns-4 c = rw (le-leb _ _ (c .before .before .if1 .left), le-leb _ _ (c .before .if2 .left), ne-eqb _ _ (c .if3 .left))
+returns-5 c = rw (le-leb _ _ (c .before .before .before .if1 .left), le-leb _ _ (c .before .before .if2 .left), ne-eqb _ _ (c .before .if3 .left))
 
 pub keeps-in-spec : {M : Type 1} → statement M
 keeps-in-spec =
@@ -42,5 +47,6 @@ keeps-in-spec =
     frequency-step-requires
     rem-result
     returns-3
+    returns-4
     rem-result-2
-    returns-4)
+    returns-5)
