@@ -15,7 +15,7 @@ use Rattle.event.specs.declared.Event.the-variants.{Trigger, Measured}
 use Rattle.event.proofs.Crossed.{sound}
 use Rattle.line.specs.Line.{startLine, textsOf, lineOf}
 use Rattle.line.specs.declared.Answer.the-variants.{Passed, Refused}
-use Rattle.lockin.specs.Calls.{allowedModule, guardOf}
+use Rattle.module.specs.Module.{allowedModule, guardOf}
 use Rattle.script.specs.Check.{gapOf, measuredHigh, textsAnswer, textsAfter, tooLong}
 use Rattle.script.specs.declared.Both.{Both}
 use Rattle.courses.specs.Course.{World, lineIn, afterLine, afterEvent, afterEvents, Gap, Gaps, after, crowded, Roomy, answerOf}

@@ -14,7 +14,8 @@ use Rattle.event.specs.Event.{eventOf}
 use Rattle.event.specs.declared.Event.{Event}
 use Rattle.line.specs.Line.{startLine, textsOf, lineOf}
 use Rattle.line.specs.declared.Answer.the-variants.{Passed, Refused}
-use Rattle.lockin.specs.Calls.{guardOf, guarded, wholeLine, lineCall, guardedEvent, eventCall}
+use Rattle.module.specs.Module.{guardOf}
+use Rattle.lockin.specs.Calls.{guarded, wholeLine, lineCall, guardedEvent, eventCall}
 use Rattle.script.specs.Check.{gapOf, textsAnswer, textsAfter, tooLong}
 use Rattle.script.specs.declared.Both.{Both}
 use Rattle.demands.proofs.States.{states-stay}

@@ -14,8 +14,9 @@ use Rattle.refusal.specs.declared.Outcome.the-variants as outcome
 use Rattle.command.specs.declared.Parsed.{Parsed}
 use Rattle.state.specs.State.{startState}
 use Rattle.line.specs.declared.Answer.the-variants.{Passed, Refused}
-use Rattle.lockin.specs.Start.{unitKnown, tracesFit, freshModule, startOf}
-use Rattle.lockin.specs.Calls.{guardOf}
+use Rattle.module.specs.Start.{unitKnown, tracesFit, freshModule}
+use Rattle.module.specs.Module.{guardOf}
+use Rattle.lockin.specs.Start.{startOf}
 use Rattle.script.specs.Check.{tooLong, linesOf, capacityFits, startBoth, checkOf}
 use Rattle.script.specs.declared.Verdict.{Verdict}
 use Rattle.script.specs.declared.Verdict.the-variants.{Fine, No}

@@ -9,8 +9,9 @@ use Rattle.event.specs.declared.Event.{Event}
 use Rattle.line.specs.Line.{lineOf}
 use Rattle.line.specs.declared.Answer.{Answer}
 use Rattle.line.specs.declared.Answer.the-variants.{Passed}
-use Rattle.lockin.specs.Calls.{allowedModule, Call, EventCall, lineCall, eventCall}
-use Rattle.lockin.specs.declared.Module.{Module}
+use Rattle.module.specs.Module.{allowedModule}
+use Rattle.module.specs.declared.Module.{Module}
+use Rattle.lockin.specs.Calls.{Call, EventCall, lineCall, eventCall}
 
 -- a module and its two traces: what a call is given, and what it returns or leaves
 pub record World : Type 0 where

@@ -29,8 +29,9 @@ use Rattle.queue.specs.Queue as queue
 use Rattle.queue.specs.declared.Queue.{Queue}
 use Rattle.queue.specs.declared.Ended.{Ended}
 use Rattle.queue.specs.declared.Ended.the-variants as ended
-use Rattle.lockin.specs.Calls.{allowedModule, guardOf, Call, guarded, ran, tooLong, wholeLine, lineCall, endedLine, fedCall, fedByte, byteCall, occurred, guardedEvent, eventCall}
-use Rattle.lockin.specs.declared.Module.{Module}
+use Rattle.module.specs.Module.{allowedModule, guardOf}
+use Rattle.module.specs.declared.Module.{Module}
+use Rattle.lockin.specs.Calls.{Call, guarded, ran, tooLong, wholeLine, lineCall, endedLine, fedCall, fedByte, byteCall, occurred, guardedEvent, eventCall}
 use Rattle.demands.specs.Demand1.{OfCommand, malformed, outOfRange, notAllowed, noRoom, BitSet, Marked, RefusedCommand, RefusedStep, RefusedCall, stateRefused, tracesRefused, lineTooLong, emptiedAt, badEvent, badTraces, badState, RefusedEvent, RefusedChangesNothing}
 use Rattle.demands.proofs.Sane.{parsed-sane}
 use Rattle.demands.proofs.Command.{command-by}

@@ -15,9 +15,10 @@ use Rattle.line.specs.Line.{lineOf}
 use Rattle.event.specs.Event.{eventOf}
 use Rattle.event.specs.declared.Event.{Event}
 use Rattle.queue.specs.Queue.{lineLimit}
+use Rattle.module.specs.Module.{allowedModule, guardOf}
+use Rattle.module.specs.declared.Module.{Module}
 use Rattle.lockin.specs.Start.{startOf}
-use Rattle.lockin.specs.Calls.{allowedModule, guardOf, lineCall, byteCall, eventCall}
-use Rattle.lockin.specs.declared.Module.{Module}
+use Rattle.lockin.specs.Calls.{lineCall, byteCall, eventCall}
 
 -- from a state and its traces to others: an allowed state stays allowed, what is fixed at start stays, and each trace keeps its length
 pub record Stays (before after : State) (one two first second : List ℕ) : Type 0 where

@@ -18,8 +18,8 @@ use Rattle.event.specs.declared.Event.{Event}
 use Rattle.line.specs.declared.Answer.the-variants as answer
 use Rattle.queue.specs.Queue.{emptiedOf, droppingIs, isMarked}
 use Rattle.queue.specs.declared.Queue.{Queue}
+use Rattle.module.specs.declared.Module.{Module}
 use Rattle.lockin.specs.Calls.{Call, lineCall, byteCall, EventCall, eventCall}
-use Rattle.lockin.specs.declared.Module.{Module}
 
 -- "1 .. CMD set", "2 .. EXE set", "3 .. EXE set", "4 .. QRY set": the refusals of a command, each with the bit laid down for it; "2 QRY, 4 EXE, 5 CMD"
 pub data OfCommand : Refusal → ℕ → Type 0 where

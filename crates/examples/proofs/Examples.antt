@@ -30,8 +30,10 @@ use Rattle.line.specs.Perform.{doneBy, performed, commandOf}
 use Rattle.line.specs.Line as line
 use Rattle.event.specs.Event.{withLatest, legalPair, pairTaken, eventOf}
 use Rattle.queue.specs.Queue as queue
-use Rattle.lockin.specs.Start.{unitKnown, tracesFit, freshModule, startOf}
-use Rattle.lockin.specs.Calls.{numbered, numbersOf, allowedModule, guardOf, guarded, wholeLine, lineCall, guardedEvent, eventCall}
+use Rattle.module.specs.Start.{unitKnown, tracesFit, freshModule}
+use Rattle.module.specs.Module.{numbered, numbersOf, allowedModule, guardOf}
+use Rattle.lockin.specs.Start.{startOf}
+use Rattle.lockin.specs.Calls.{guarded, wholeLine, lineCall, guardedEvent, eventCall}
 use Rattle.script.specs.Check.{resets, measuredHigh, triggeredHigh, gapOf, kindRefusal, textRefusal, kindAfter, textAfter}
 use Rattle.script.specs.Check.{answerAt, textsAnswer, textsAfter, verdictOf, linesVerdict, withoutLast, checkOf}
 use Rattle.examples.specs.Examples.{lineSeen, low16, wordOf, floatSeen, verdictSeen, seenOf, table, Examples}

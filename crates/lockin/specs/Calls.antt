@@ -1,56 +1,31 @@
 -- What the public calls on a module do, for every input: document 01, "Lines and commands", "Events, status, identity" and "Refusal numbers".
 use Prim.Native.Nat.{ℕ}
-use mathlib.Core.Bool.{Bool, true, false, cond, _&&_}
+use mathlib.Core.Bool.{Bool, cond}
 use mathlib.Core.Path.{_≡_}
 use mathlib.Core.List.{List, []}
-use lib.Dec.{leb, eqb}
+use lib.Dec.{leb}
 use lib.ListN.{length}
-use Rattle.refusal.specs.Meaning.{meaningOf}
 use Rattle.refusal.specs.declared.Refusal.{Refusal}
-use Rattle.refusal.specs.declared.Refusal.the-variants.{LongLine, BadTraces, BadState}
+use Rattle.refusal.specs.declared.Refusal.the-variants.{LongLine, BadState}
 use Rattle.refusal.specs.declared.Outcome.{Outcome}
 use Rattle.refusal.specs.declared.Outcome.the-variants as outcome
 use Rattle.state.specs.State.{markedBy}
-use Rattle.state.specs.Allowed.{allowedState}
-use Rattle.state.specs.declared.State.{State}
-use Rattle.status.specs.Status.{statusByte}
-use Rattle.storage.specs.Storage.{atRest}
 use Rattle.queue.specs.Queue as queue
 use Rattle.queue.specs.declared.Queue.{Queue}
 use Rattle.queue.specs.declared.Ended.{Ended}
 use Rattle.queue.specs.declared.Ended.the-variants as ended
 use Rattle.reply.specs.Reply.{over}
 use Rattle.line.specs.Line.{Line, lineOf}
-use Rattle.line.specs.declared.Answer.{Answer}
 use Rattle.line.specs.declared.Answer.the-variants as answer
 use Rattle.event.specs.Event.{Occurred, eventOf}
 use Rattle.event.specs.declared.Event.{Event}
-use Rattle.lockin.specs.declared.Module.{Module}
-use Rattle.lockin.specs.declared.Told.{Told}
-use Rattle.lockin.specs.declared.Numbers.{Numbers}
-use Rattle.lockin.specs.declared.Called.{Called}
+use Rattle.module.specs.Module.{allowedModule, guardOf, toldOf, statusBetween}
+use Rattle.module.specs.declared.Module.{Module}
+use Rattle.module.specs.declared.Told.{Told}
+use Rattle.module.specs.declared.Called.{Called}
 use Rattle.lockin.specs.declared.Taken.{Taken}
 use Rattle.lockin.specs.declared.Polled.{Polled}
 use Rattle.lockin.specs.declared.Polled.the-variants as polled
-
--- the paper's numbers for an answer: refusal, place and length; "An answer 0 has place 0"
-unfoldable pub numbered : Answer → ℕ → Numbers
-numbered answer.Passed n = record { refusal = 0; place = 0; length = n }
-numbered (answer.Refused r place) n = record { refusal = meaningOf r .number; place = place; length = n }
-
-unfoldable pub numbersOf : Told → Numbers
-numbersOf t = numbered (t .answer) (t .length)
-
--- refusal 11: "a state outside the ranges, steps and limits above"; the queue is part of it
-unfoldable pub allowedModule : Module → Bool
-allowedModule m = allowedState (m .state) && queue.keepsOf (m .queue) (m .state .unit .port)
-
--- "Order: 10, 11, 9": 9, "traces .. not the state's capacity"
-unfoldable pub guardOf : Module → ℕ → ℕ → Outcome
-guardOf m first second =
-    cond (allowedModule m)
-    (cond (eqb first (m .state .unit .capacity) && eqb second (m .state .unit .capacity)) outcome.Done (outcome.Refused BadTraces))
-    (outcome.Refused BadState)
 
 -- a call with a line or a byte: the module and both traces after it, the reply bytes, and what is told
 pub record Call : Type 0 where
@@ -59,9 +34,6 @@ pub record Call : Type 0 where
   pub two : List ℕ
   pub out : List ℕ
   pub told : Told
-
-abbrev pub toldOf : Answer → ℕ → Told
-toldOf a n = record { answer = a; length = n }
 
 -- 11 and 9: "nothing"
 abbrev pub untouched : Refusal → Module → List ℕ → List ℕ → Call
@@ -143,11 +115,6 @@ pub record Happens (c : EventCall) (r : Taken) (one two : List ℕ) : Type 0 whe
   pub outcome : r .outcome ≡ c .outcome
   pub first : one ≡ c .one
   pub second : two ≡ c .two
-
--- the status byte between lines: "1 no command running", "4 .. (0 between lines)"
-unfoldable pub statusBetween : State → ℕ
-statusBetween s =
-    statusByte (s .registers) (s .enables) (record { «at_rest» = atRest (s .moving .storage); idle = true; waiting = false })
 
 unfoldable pub pollOf : Module → Polled
 pollOf m = cond (allowedModule m) (polled.Status (statusBetween (m .state))) (polled.Refused BadState)

@@ -1,30 +1,10 @@
--- The start: document 01, refusals 10 and 9, and the module of a refused start.
+-- The start: document 01, refusals 10 and 9.
 use Prim.Native.Nat.{ℕ}
-use mathlib.Core.Bool.{Bool, cond, _&&_}
-use lib.Dec.{leb, eqb}
-use Rattle.refusal.specs.declared.Refusal.{Refusal}
+use mathlib.Core.Bool.{cond}
 use Rattle.refusal.specs.declared.Refusal.the-variants.{BadTraces, BadStart}
-use Rattle.refusal.specs.declared.Outcome.the-variants.{Done, Refused}
-use Rattle.state.specs.State.{startState}
-use Rattle.state.specs.declared.Unit.{Unit}
-use Rattle.queue.specs.Queue.{emptyQueue}
-use Rattle.lockin.specs.declared.Module.{Module}
-use Rattle.lockin.specs.declared.Started.{Started}
-
--- "serial over 99999 or port unknown": the ports are 0, RS232, and 1, GPIB
-unfoldable pub unitKnown : ℕ → ℕ → Bool
-unitKnown serial port = leb serial 99999 && leb port 1
-
--- "traces unequal, empty, over 16383": the lengths of both
-unfoldable pub tracesFit : ℕ → ℕ → Bool
-tracesFit first second = eqb first second && (leb 1 first && leb first 16383)
-
-unfoldable pub freshModule : Unit → Module
-freshModule u = record { state = startState u; queue = emptyQueue }
-
--- "a start refused by 10 or 9 gives serial 0, GPIB, capacity 1"
-abbrev pub refusedStart : Refusal → Started
-refusedStart r = record { after = freshModule (record { serial = 0; port = 1; capacity = 1 }); outcome = Refused r }
+use Rattle.refusal.specs.declared.Outcome.the-variants.{Done}
+use Rattle.module.specs.Start.{unitKnown, tracesFit, freshModule, refusedStart}
+use Rattle.module.specs.declared.Started.{Started}
 
 -- "Order: 10, .., 9"; the traces are not written
 unfoldable pub startOf : ℕ → ℕ → ℕ → ℕ → Started

@@ -1,7 +1,7 @@
 -- `lockin::start` meets its contract: 10, then 9. Assumes nothing.
 use mathlib.Core.Path.{sym, _∙_}
 use borrow.Author.Needs.{needs}
-use Rattle.lockin.proofs.Given.{port-small, capacity-small}
+use Rattle.module.proofs.Bounds.{port-small, capacity-small}
 use Rattle.lockin.specs.Start.{startOf}
 use Rattle.lockin.proofs.start.Statement.{statement}
 use Rattle.lockin.proofs.start.Tie as tie

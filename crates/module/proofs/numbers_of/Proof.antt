@@ -1,8 +1,8 @@
--- `lockin::numbers_of` meets its contract. Assumes nothing.
+-- `module::numbers_of` meets its contract. Assumes nothing.
 use borrow.Author.Needs.{needs}
-use Rattle.lockin.specs.Calls.{numbered, numbersOf}
-use Rattle.lockin.proofs.numbers_of.Statement.{statement}
-use Rattle.lockin.proofs.numbers_of.Tie as tie
+use Rattle.module.specs.Module.{numbered, numbersOf}
+use Rattle.module.proofs.numbers_of.Statement.{statement}
+use Rattle.module.proofs.numbers_of.Tie as tie
 
 enum-told : tie.Need-enum-told
 enum-told c = search needs

@@ -1,7 +1,7 @@
--- `lockin::too_long` meets its contract. Assumes nothing.
+-- `module::too_long` meets its contract. Assumes nothing.
 use borrow.Author.Needs.{needs}
-use Rattle.lockin.proofs.too_long.Statement.{statement}
-use Rattle.lockin.proofs.too_long.Tie as tie
+use Rattle.module.proofs.too_long.Statement.{statement}
+use Rattle.module.proofs.too_long.Tie as tie
 
 marked-requires : tie.Need-marked-requires
 marked-requires c κs = search needs

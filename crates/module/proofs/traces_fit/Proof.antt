@@ -1,9 +1,9 @@
--- `lockin::traces_fit` meets its contract. Assumes nothing.
+-- `module::traces_fit` meets its contract. Assumes nothing.
 use borrow.Author.Tests.{lt-leb, le-leb, eq-eqb, ne-eqb}
 use borrow.Author.Needs.{needs}
-use Rattle.lockin.specs.Start.{tracesFit}
-use Rattle.lockin.proofs.traces_fit.Statement.{statement}
-use Rattle.lockin.proofs.traces_fit.Tie as tie
+use Rattle.module.specs.Start.{tracesFit}
+use Rattle.module.proofs.traces_fit.Statement.{statement}
+use Rattle.module.proofs.traces_fit.Tie as tie
 
 cast-if2 : tie.Need-cast-if2
 cast-if2 c = search needs

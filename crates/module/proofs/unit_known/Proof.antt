@@ -1,9 +1,9 @@
--- `lockin::unit_known` meets its contract. Assumes nothing.
+-- `module::unit_known` meets its contract. Assumes nothing.
 use borrow.Author.Tests.{lt-leb, le-leb}
 use borrow.Author.Needs.{needs}
-use Rattle.lockin.specs.Start.{unitKnown}
-use Rattle.lockin.proofs.unit_known.Statement.{statement}
-use Rattle.lockin.proofs.unit_known.Tie as tie
+use Rattle.module.specs.Start.{unitKnown}
+use Rattle.module.proofs.unit_known.Statement.{statement}
+use Rattle.module.proofs.unit_known.Tie as tie
 
 returns : tie.Need-returns
 unfolding unitKnown

@@ -1,10 +1,10 @@
--- `lockin::guard` meets its contract: 11, then 9. Assumes nothing.
+-- `module::guard` meets its contract: 11, then 9. Assumes nothing.
 use borrow.Author.Tests.{eq-eqb, ne-eqb}
 use mathlib.Core.Path.{sym, _∙_}
 use borrow.Author.Needs.{needs}
-use Rattle.lockin.specs.Calls.{guardOf}
-use Rattle.lockin.proofs.guard.Statement.{statement}
-use Rattle.lockin.proofs.guard.Tie as tie
+use Rattle.module.specs.Module.{guardOf}
+use Rattle.module.proofs.guard.Statement.{statement}
+use Rattle.module.proofs.guard.Tie as tie
 
 allowed-requires : tie.Need-allowed-requires
 allowed-requires c κs = search needs

@@ -1,9 +1,9 @@
--- `lockin::allowed` meets its contract. Assumes nothing.
+-- `module::allowed` meets its contract. Assumes nothing.
 use mathlib.Core.Path.{sym, _∙_}
 use borrow.Author.Needs.{needs}
-use Rattle.lockin.specs.Calls.{allowedModule}
-use Rattle.lockin.proofs.allowed.Statement.{statement}
-use Rattle.lockin.proofs.allowed.Tie as tie
+use Rattle.module.specs.Module.{allowedModule}
+use Rattle.module.proofs.allowed.Statement.{statement}
+use Rattle.module.proofs.allowed.Tie as tie
 
 allowed-requires : tie.Need-allowed-requires
 allowed-requires c κs = search needs

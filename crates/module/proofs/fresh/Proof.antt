@@ -1,8 +1,8 @@
--- `lockin::fresh` meets its contract. Assumes nothing.
+-- `module::fresh` meets its contract. Assumes nothing.
 use borrow.Author.Needs.{needs}
-use Rattle.lockin.specs.Start.{freshModule}
-use Rattle.lockin.proofs.fresh.Statement.{statement}
-use Rattle.lockin.proofs.fresh.Tie as tie
+use Rattle.module.specs.Start.{freshModule}
+use Rattle.module.proofs.fresh.Statement.{statement}
+use Rattle.module.proofs.fresh.Tie as tie
 
 start-requires : tie.Need-start-requires
 start-requires c κs = search needs

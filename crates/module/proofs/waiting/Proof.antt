@@ -1,11 +1,11 @@
--- `lockin::waiting` meets its contract. Assumes nothing.
+-- `module::waiting` meets its contract. Assumes nothing.
 use mathlib.Core.Path.{_≡_, refl}
 use lib.ListN.{length}
 use native.Mathlib.Omega.{arith}
 use borrow.Author.Needs.{needs}
-use Rattle.lockin.proofs.Given.{all-waiting}
-use Rattle.lockin.proofs.waiting.Statement.{statement}
-use Rattle.lockin.proofs.waiting.Tie as tie
+use Rattle.module.proofs.Bounds.{all-waiting}
+use Rattle.module.proofs.waiting.Statement.{statement}
+use Rattle.module.proofs.waiting.Tie as tie
 
 returns : tie.Need-returns
 returns c = (refl, omega arith)

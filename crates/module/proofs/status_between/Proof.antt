@@ -1,8 +1,8 @@
--- `lockin::status_between` meets its contract. Assumes nothing.
+-- `module::status_between` meets its contract. Assumes nothing.
 use borrow.Author.Needs.{needs}
-use Rattle.lockin.specs.Calls.{statusBetween}
-use Rattle.lockin.proofs.status_between.Statement.{statement}
-use Rattle.lockin.proofs.status_between.Tie as tie
+use Rattle.module.specs.Module.{statusBetween}
+use Rattle.module.proofs.status_between.Statement.{statement}
+use Rattle.module.proofs.status_between.Tie as tie
 
 at-rest-requires : tie.Need-at-rest-requires
 at-rest-requires c κs = search needs

@@ -1,0 +1,2 @@
+-- Laws on a module's numbers.
+pub mod Bounds

@@ -1,0 +1,4 @@
+-- The definitions that the contracts of `module` cite.
+pub mod Start
+pub mod Module
+pub mod Given

@@ -1,0 +1,26 @@
+-- A start's parts: document 01, refusals 10 and 9, and the module of a refused start.
+use Prim.Native.Nat.{ℕ}
+use mathlib.Core.Bool.{Bool, _&&_}
+use lib.Dec.{leb, eqb}
+use Rattle.refusal.specs.declared.Refusal.{Refusal}
+use Rattle.refusal.specs.declared.Outcome.the-variants.{Refused}
+use Rattle.state.specs.State.{startState}
+use Rattle.state.specs.declared.Unit.{Unit}
+use Rattle.queue.specs.Queue.{emptyQueue}
+use Rattle.module.specs.declared.Module.{Module}
+use Rattle.module.specs.declared.Started.{Started}
+
+-- "serial over 99999 or port unknown": the ports are 0, RS232, and 1, GPIB
+unfoldable pub unitKnown : ℕ → ℕ → Bool
+unitKnown serial port = leb serial 99999 && leb port 1
+
+-- "traces unequal, empty, over 16383": the lengths of both
+unfoldable pub tracesFit : ℕ → ℕ → Bool
+tracesFit first second = eqb first second && (leb 1 first && leb first 16383)
+
+unfoldable pub freshModule : Unit → Module
+freshModule u = record { state = startState u; queue = emptyQueue }
+
+-- "a start refused by 10 or 9 gives serial 0, GPIB, capacity 1"
+abbrev pub refusedStart : Refusal → Started
+refusedStart r = record { after = freshModule (record { serial = 0; port = 1; capacity = 1 }); outcome = Refused r }
