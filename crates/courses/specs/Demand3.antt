@@ -1,4 +1,7 @@
 -- Demand 3: what each verdict of the script check says of every course. Document 01, "The script check".
+--
+-- "A check that always says no, or always yes, is shut out by demand 3: `*RST` alone must pass, an empty script must not." As wrong programs these are
+-- script/must-fail/always_no and always_yes under crates/; the two scripts are in crates/examples/specs/Scripts.antt.
 use Prim.Native.Nat.{ℕ, zero, suc, _+_, _≤_, _<_}
 use mathlib.Core.Bool.{Bool, true, false}
 use mathlib.Core.Path.{_≡_}

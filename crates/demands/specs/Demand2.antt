@@ -1,6 +1,10 @@
 -- Demand 2: "the reply for a setting in any allowed state (for FREQ?, in internal mode), sent back after its channel number, if any, is refused by
 -- neither 1 nor 2 in any allowed state, and wherever the command is allowed it sets the same value: once over the table, for every setting, channel
 -- and value".
+--
+-- "Demand 2 shuts out a core that refuses everything, one that replies alike to all, one that accepts and keeps nothing, one that does a line's first
+-- command and merely acknowledges the others, and one whose SPTS? is invented." As wrong programs these are, under crates/: module/must-fail/refuses_everything,
+-- answer/must-fail/replies_alike, change/must-fail/keeps_nothing, line/must-fail/later_commands_acknowledged and answer/must-fail/points_invented.
 use Prim.Native.Nat.{ℕ, _+_, _-_, _*_, _<_, _≤_}
 use mathlib.Core.Path.{_≡_}
 use mathlib.Core.Bool.{Bool, true}

@@ -1,2 +1,3 @@
 -- Document 01's examples, proved.
 pub mod Examples
+pub mod Scripts

@@ -1,2 +1,3 @@
 -- Document 01's examples.
 pub mod Examples
+pub mod Scripts

@@ -1,0 +1,17 @@
+-- `*RST` alone passes at every legal capacity, an empty script at none. Assumes nothing.
+use mathlib.Core.Path.{refl}
+use Rattle.divide.specs.Divide.{span, onHead, parts}
+use Rattle.number.specs.Number.{begins}
+use Rattle.clean.specs.Clean.{cleaned}
+use Rattle.name.specs.Names.{meaningIn}
+use Rattle.command.specs.Arguments.{arguments}
+use Rattle.command.specs.Parsed.{alone, setWith, parsedOf}
+use Rattle.change.specs.Change.{restoredBy, settingsAfter, storageBy, storageAfter, movingAfter}
+use Rattle.script.specs.Check.{resets, gapOf, kindRefusal, textRefusal, kindAfter, textAfter}
+use Rattle.script.specs.Check.{answerAt, textsAnswer, textsAfter, verdictOf, linesVerdict, withoutLast, checkOf}
+use Rattle.examples.specs.Scripts.{AtEveryCapacity}
+
+pub at-every-capacity : AtEveryCapacity
+unfolding span onHead parts begins cleaned meaningIn arguments alone setWith parsedOf restoredBy settingsAfter storageBy storageAfter movingAfter
+    resets gapOf kindRefusal textRefusal kindAfter textAfter answerAt textsAnswer textsAfter verdictOf linesVerdict withoutLast checkOf
+at-every-capacity capacity fits = record { reset-alone = rw fits refl; empty = rw fits refl }
