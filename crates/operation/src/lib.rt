@@ -37,7 +37,16 @@ fn show(m: Module, one: &[u32], two: &[u32]) -> Module {
     m
 }
 
-// The answer to what calls no module.
+// The answer to `poll`.
+fn tell_poll(m: Module) {
+    let told = lockin::poll_numbers_of(lockin::poll(m));
+    let mut out = io::buffer();
+    let refusal = terminal::put_named(&mut out, 0, b"P ", told.refusal as u32);
+    let status = terminal::put_named(&mut out, refusal, b" ", told.status as u32);
+    terminal::end_line(&mut out, status);
+}
+
+// The answer to what leaves the module as it is.
 fn answer(
     m: Module,
     operation: Operation,
@@ -47,6 +56,7 @@ fn answer(
 ) -> Module {
     match operation {
         Operation::Poke(trace, slot, word) => poke(trace, slot, word, one, two),
+        Operation::Poll => tell_poll(m),
         Operation::Check(capacity, len) => {
             verdict::tell(script::check(capacity, terminal::first_of(bytes, len)))
         }

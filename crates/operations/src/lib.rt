@@ -60,7 +60,7 @@ pub fn append(line: &mut [u8], len: usize, part: &[u8]) -> usize {
 }
 
 // What an operation asks for: a start with its serial number, port and the lengths of the traces; a line with how many bytes it has and the room for its
-// reply; a byte with its end mark and the room for a reply; an event; a word for a slot of trace 1 or 2; the state as text; a script of so many bytes
+// reply; a byte with its end mark and the room for a reply; an event; a word for a slot of trace 1 or 2; the state as text; a serial poll; a script of so many bytes
 // checked at a capacity.
 pub enum Operation {
     Start(u32, u32, usize, usize),
@@ -69,6 +69,7 @@ pub enum Operation {
     Event(Event),
     Poke(u32, usize, u32),
     Dump,
+    Poll,
     Check(u32, usize),
     Wrong,
 }
@@ -120,6 +121,9 @@ fn bare_of(word: &[u8], text: &[u8], next: usize) -> Operation {
     }
     if same(word, b"dump") {
         return bare(text, next, Operation::Dump);
+    }
+    if same(word, b"poll") {
+        return bare(text, next, Operation::Poll);
     }
     event_of(word, text, next)
 }

@@ -73,6 +73,11 @@ impl Module {
         self.settings.entries[SEND] == 0
     }
 
+    /// The status byte between lines, as a serial poll reads it.
+    pub fn serial_poll(&self) -> u8 {
+        self.registers.status_between_lines(self.phase())
+    }
+
     pub fn phase(&self) -> Phase {
         self.storage.phase(self.is_one_shot())
     }

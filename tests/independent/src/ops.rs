@@ -46,6 +46,7 @@ pub enum Operation {
     Raise { lia: u8, err: u8 },
     Poke { trace: usize, slot: usize, word: u32 },
     Dump,
+    Poll,
     Check { capacity: usize, script: Vec<u8> },
 }
 
@@ -78,6 +79,7 @@ impl Operation {
                 word: digits(word, 8)?,
             },
             ["dump"] => Operation::Dump,
+            ["poll"] => Operation::Poll,
             ["check", capacity, script] => {
                 Operation::Check { capacity: number(capacity, u32::MAX)? as usize, script: bytes(script)? }
             }
@@ -101,6 +103,7 @@ impl fmt::Display for Operation {
             Operation::Raise { lia, err } => write!(f, "raise {lia} {err}"),
             Operation::Poke { trace, slot, word } => write!(f, "poke {} {slot} {word:08x}", trace + 1),
             Operation::Dump => write!(f, "dump"),
+            Operation::Poll => write!(f, "poll"),
             Operation::Check { capacity, script } => write!(f, "check {capacity} {}", hex::field(script)),
         }
     }
@@ -151,6 +154,7 @@ mod tests {
             "raise 255 0",
             "poke 2 4294967295 0000000f",
             "dump",
+            "poll",
             "check 4 2a525354",
         ] {
             assert_eq!(Operation::read(text.as_bytes()).map(|operation| operation.to_string()), Some(text.to_string()));
@@ -167,6 +171,7 @@ mod tests {
             "dump\r",
             "Dump",
             "dump 1",
+            "poll 1",
             "tick\t",
             "start 1 1 4",
             "start 1 1 4 4 4",

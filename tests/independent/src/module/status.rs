@@ -11,6 +11,7 @@ pub const LIA_TRIGGERED: u8 = 1 << 6;
 
 /// Bits of the status byte.
 const STORAGE_IDLE: u8 = 1 << 0;
+const NO_COMMAND: u8 = 1 << 1;
 const ERR_EVENT: u8 = 1 << 2;
 const LIA_EVENT: u8 = 1 << 3;
 const REPLY_WAITING: u8 = 1 << 4;
@@ -78,8 +79,18 @@ impl Registers {
 
     /// The status byte within a reply.
     pub fn status_byte(&self, phase: Phase, reply_waiting: bool) -> u8 {
+        self.byte_of(phase, false, reply_waiting)
+    }
+
+    /// The status byte between lines: no command is running and no reply is waiting.
+    pub fn status_between_lines(&self, phase: Phase) -> u8 {
+        self.byte_of(phase, true, false)
+    }
+
+    fn byte_of(&self, phase: Phase, no_command: bool, reply_waiting: bool) -> u8 {
         let bits = [
             (matches!(phase, Phase::Reset | Phase::Done), STORAGE_IDLE),
+            (no_command, NO_COMMAND),
             (self.err.is_raised(), ERR_EVENT),
             (self.lia.is_raised(), LIA_EVENT),
             (reply_waiting, REPLY_WAITING),

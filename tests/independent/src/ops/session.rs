@@ -64,6 +64,8 @@ impl Session {
                 "K".to_string()
             }
             Operation::Dump => super::dump::dump(module),
+            // A module made by these operations is never refused by 11.
+            Operation::Poll => format!("P 0 {}", module.serial_poll()),
             Operation::Check { capacity, script } => script::text(&script::check(*capacity, script)),
         }
     }

@@ -46,7 +46,8 @@ impl Operations {
             670..=719 => next.push_back(pair(generator)),
             720..=749 => next.push_back(raise(generator)),
             750..=779 => next.push_back(poke(generator, session)),
-            780..=829 => next.push_back(check(generator)),
+            780..=809 => next.push_back(Operation::Poll),
+            810..=839 => next.push_back(check(generator)),
             _ => next.push_back(Operation::Dump),
         }
     }
