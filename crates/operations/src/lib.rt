@@ -4,7 +4,8 @@ use terminal::Decoded;
 use terminal::Field;
 use terminal::Number;
 
-// The longest trace, the largest reply buffer, the largest byte, and how many traces there are.
+// The longest trace; the largest reply buffer, one that is enough for most, and what each of their bytes is before the call; the largest byte; how many
+// traces there are.
 pub const SLOTS: u32 = 16384;
 
 pub const ROOM: u32 = 131072;

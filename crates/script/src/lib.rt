@@ -257,15 +257,22 @@ fn check_lines(capacity: u32, script: &[u8]) -> Verdict
     Verdict::No(1, 1, Refusal::NoReset)
 }
 
+// A capacity that traces can have, else refusal 9.
+pub fn capacity_fits(capacity: u32) -> bool
+    ensures { λ r. ⌜ r ≡ capacityFits capacity ⌝ }
+{
+    if capacity < settings::CAPACITY_LEAST {
+        return false;
+    }
+    capacity <= settings::CAPACITY_MOST
+}
+
 // Whether any course of a script can be refused, at a capacity.
 pub fn check(capacity: u32, script: &[u8]) -> Verdict
     ensures { λ r. ⌜ r ≡ checkOf capacity (now (script .entry)) ⌝ }
 {
-    if capacity < settings::CAPACITY_LEAST {
-        return Verdict::No(0, 0, Refusal::BadTraces);
+    if capacity_fits(capacity) {
+        return check_lines(capacity, script);
     }
-    if settings::CAPACITY_MOST < capacity {
-        return Verdict::No(0, 0, Refusal::BadTraces);
-    }
-    check_lines(capacity, script)
+    Verdict::No(0, 0, Refusal::BadTraces)
 }

@@ -1,4 +1,5 @@
--- The input taken byte by byte: what is kept of it, and the bytes that were lent for the script.
+-- The input taken byte by byte: what is kept of it, and the bytes that were lent for the script. That this is enough to say what document 01 says of the
+-- whole input is stated in Whole.antt.
 use Prim.Native.Nat.{ℕ, _+_, _-_, _*_}
 use mathlib.Core.Bool.{true, false, cond}
 use mathlib.Core.List.{List, [], _∷_}

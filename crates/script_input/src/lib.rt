@@ -1,6 +1,5 @@
 // What the programs over the script check read: the capacity on line one, then the script; and what they say of it.
 ghost use mathlib.Core.Path.{_≡_};
-ghost use Rattle.script.specs.Check.{capacityFits};
 ghost use Rattle.script_input.specs.Input.{limitedCheck};
 ghost use Rattle.script_input.specs.Taken.{held, startInput, capacityAfter, lineOneAfter, scriptAfter, byteTaken, allTaken};
 
@@ -106,15 +105,6 @@ pub fn take(input: Input, bytes: &[u8], script: &mut [u8]) -> Input
     latest
 }
 
-fn capacity_fits(capacity: u32) -> bool
-    ensures { λ r. ⌜ r ≡ capacityFits capacity ⌝ }
-{
-    if capacity < settings::CAPACITY_LEAST {
-        return false;
-    }
-    capacity <= settings::CAPACITY_MOST
-}
-
 // What the programs say of a script at a capacity.
 pub fn verdict_of(capacity: u32, script: &[u8]) -> Verdict
     ensures { λ r. ⌜ r ≡ limitedCheck capacity (now (script .entry)) ⌝ }
@@ -122,7 +112,7 @@ pub fn verdict_of(capacity: u32, script: &[u8]) -> Verdict
     if script.len() <= LIMIT {
         return script::check(capacity, script);
     }
-    if capacity_fits(capacity) {
+    if script::capacity_fits(capacity) {
         return Verdict::No(0, 0, Refusal::LongScriptLine);
     }
     Verdict::No(0, 0, Refusal::BadTraces)

@@ -1,7 +1,7 @@
--- `script_input::capacity_fits` meets its contract. Assumes nothing.
+-- `script::capacity_fits` meets its contract. Assumes nothing.
 use borrow.Author.Tests.{le-leb, lt-leb}
-use Rattle.script_input.proofs.capacity_fits.Statement.{statement}
-use Rattle.script_input.proofs.capacity_fits.Tie as tie
+use Rattle.script.proofs.capacity_fits.Statement.{statement}
+use Rattle.script.proofs.capacity_fits.Tie as tie
 
 returns : tie.Need-returns
 returns c = rw (lt-leb 1 (c .before .args .capacity) (c .if1 .taken))
