@@ -19,10 +19,27 @@ const WORD_DIGITS: usize = 8;
 const NAMES: [u8; 136] =
     *b"phasfmodfreqrslpharmslvlisrcilinofsligndicplsyncsensrmodofltddef            fpop    oexp                    auxv            sratsendtstr";
 
+// Numbers, each behind its name. The names stand one behind the other, and each ends in `=`.
+fn put_listed(out: &mut [u8], at: usize, names: &[u8], values: &[u32]) -> usize {
+    let mut end = at;
+    let mut start = 0;
+    let mut i = 0;
+    while i < values.len() {
+        let equals = divide::end_of(names, b'=', start);
+        let name = put_all(out, end, &names[start..equals]);
+        end = put_named(out, name, b"=", values[i]);
+        if equals == names.len() {
+            return end;
+        }
+        start = equals + 1;
+        i += 1;
+    }
+    end
+}
+
 fn put_unit(out: &mut [u8], at: usize, unit: Unit) -> usize {
-    let serial = put_named(out, at, b"serial=", unit.serial);
-    let port = put_named(out, serial, b" port=", unit.port as u32);
-    put_named(out, port, b" cap=", unit.capacity)
+    let values = [unit.serial, unit.port as u32, unit.capacity];
+    put_listed(out, at, b"serial= port= cap=", &values)
 }
 
 // What stands before an entry's value: a space, its name and `=`, or a comma behind the setting's first.
@@ -79,9 +96,9 @@ fn put_phase(out: &mut [u8], at: usize, phase: Phase) -> usize {
 
 fn put_storage(out: &mut [u8], at: usize, s: Storage) -> usize {
     let phase = s.phase;
+    let values = [s.held, s.next];
     let end = put_phase(out, at, phase);
-    let held = put_named(out, end, b" held=", s.held);
-    put_named(out, held, b" next=", s.next)
+    put_listed(out, end, b" held= next=", &values)
 }
 
 // A text and a word.
@@ -95,17 +112,17 @@ fn put_pair(out: &mut [u8], at: usize, pair: Pair) -> usize {
     put_word(out, end, b",", pair.two)
 }
 
-fn put_registers(out: &mut [u8], at: usize, r: Registers) -> usize {
-    let standard = put_named(out, at, b" esr=", r.standard as u32);
-    let lia = put_named(out, standard, b" lia=", r.lia as u32);
-    put_named(out, lia, b" err=", r.errors as u32)
-}
-
-fn put_enables(out: &mut [u8], at: usize, e: Enables) -> usize {
-    let standard = put_named(out, at, b" ese=", e.standard as u32);
-    let service = put_named(out, standard, b" sre=", e.service as u32);
-    let lia = put_named(out, service, b" liae=", e.lia as u32);
-    put_named(out, lia, b" erre=", e.errors as u32)
+fn put_status(out: &mut [u8], at: usize, r: Registers, e: Enables) -> usize {
+    let values = [
+        r.standard as u32,
+        r.lia as u32,
+        r.errors as u32,
+        e.standard as u32,
+        e.service as u32,
+        e.lia as u32,
+        e.errors as u32,
+    ];
+    put_listed(out, at, b" esr= lia= err= ese= sre= liae= erre=", &values)
 }
 
 fn put_queue(out: &mut [u8], at: usize, q: Queue) -> usize {
@@ -140,8 +157,7 @@ fn put_state(out: &mut [u8], at: usize, s: State) -> usize {
     let settings = put_settings(out, unit, s.settings, moving.external);
     let storage = put_storage(out, settings, moving.storage);
     let pair = put_pair(out, storage, s.latest);
-    let registers = put_registers(out, pair, s.registers);
-    put_enables(out, registers, s.enables)
+    put_status(out, pair, s.registers, s.enables)
 }
 
 // The whole text behind the bytes that wait in a buffer, as `terminal` puts it.

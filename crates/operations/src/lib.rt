@@ -1,8 +1,8 @@
 // The operations of docs/ops-protocol.md: what the fields of each ask for.
+ghost use Prim.Native.Nat.{_<_};
 use event::Event;
 use terminal::Decoded;
 use terminal::Field;
-use terminal::Number;
 
 // The longest trace; the largest reply buffer, one that is enough for most, and what each of their bytes is before the call; the largest byte; how many
 // traces there are.
@@ -22,6 +22,19 @@ const TRACES: u32 = 2;
 const WORD: usize = 8;
 
 const BYTE: usize = 2;
+
+// The names of the operations, each in so many bytes, and what the fields of each are, at most so many: a number n, a trace's length s, a room r, a byte
+// as a number b, an end mark m, a trace t, a byte in hex h, a word in hex w, or bytes in hex x.
+const NAMES: [u8; 96] =
+    *b"start   line    byte    pair    tick    trigger measuredraise   poke    dump    check   poll    ";
+
+const NAME: usize = 8;
+
+const KINDS: [u8; 48] = *b"nnssxr  hmr ww          n   bb  tnw     nx      ";
+
+const FIELDS: usize = 4;
+
+const OPERATIONS: usize = 12;
 
 // A line with more bytes is no operation.
 pub const LINE_LIMIT: usize = 131072;
@@ -44,22 +57,6 @@ pub fn trace_buffer() -> [u32; SLOTS as usize] {
     [0u32; SLOTS as usize]
 }
 
-// Puts a part of a line behind the bytes that there are of it, and gives how many there are then.
-pub fn append(line: &mut [u8], len: usize, part: &[u8]) -> usize {
-    if line.len() < len {
-        return len;
-    }
-    if line.len() - len < part.len() {
-        return LINE_LIMIT + 1;
-    }
-    let mut i = 0;
-    while i < part.len() {
-        line[len + i] = part[i];
-        i += 1;
-    }
-    len + part.len()
-}
-
 // What an operation asks for: a start with its serial number, port and the lengths of the traces; a line with how many bytes it has and the room for its
 // reply; a byte with its end mark and the room for a reply; an event; a word for a slot of trace 1 or 2; the state as text; a serial poll; a script of so many bytes
 // checked at a capacity.
@@ -75,178 +72,139 @@ pub enum Operation {
     Wrong,
 }
 
-fn same(a: &[u8], b: &[u8]) -> bool {
-    if a.len() != b.len() {
-        return false;
-    }
+// The fields of an operation as numbers, bytes in hex by how many they are; and whether they are all right and the last one ends the text.
+struct Fields {
+    values: [u32; FIELDS],
+    right: bool,
+}
+
+// Whether a name in its bytes, spaces behind it, is this word.
+fn is_name(name: &[u8], word: &[u8]) -> bool {
+    let n = divide::span_of(name, b' ');
+    terminal::same(&name[0..n], word)
+}
+
+// The number of the operation with this name, past the last where there is none.
+fn number_of(word: &[u8]) -> usize {
+    let names = NAMES;
     let mut i = 0;
-    while i < a.len() {
-        if a[i] != b[i] {
-            return false;
+    while i < OPERATIONS {
+        let start = NAME * i;
+        if is_name(&names[start..start + NAME], word) {
+            return i;
         }
         i += 1;
     }
-    true
+    i
 }
 
-// The operation that a text asks for. The bytes of a line or a script are put at the start of a buffer.
-pub fn operation_of(text: &[u8], bytes: &mut [u8]) -> Operation {
-    let n = divide::span_of(text, b' ');
-    let word = &text[0..n];
-    let next = n + 1;
-    if same(word, b"line") {
-        return line_of(text, next, bytes);
+// The largest number that a field of a kind can have.
+fn most_of(kind: u8) -> u32 {
+    match kind {
+        b's' => SLOTS,
+        b'r' => ROOM,
+        b'b' => LAST_BYTE,
+        b'm' => 1,
+        b't' => TRACES,
+        _ => u32::MAX,
     }
-    if same(word, b"byte") {
-        return byte_of(text, next);
-    }
-    if same(word, b"check") {
-        return check_of(text, next, bytes);
-    }
-    if same(word, b"start") {
-        return start_of(text, next);
-    }
-    if same(word, b"poke") {
-        return poke_of(text, next);
-    }
-    bare_of(word, text, next)
 }
 
-// An operation without fields, or an event with some.
-fn bare_of(word: &[u8], text: &[u8], next: usize) -> Operation {
-    if same(word, b"tick") {
-        return bare(text, next, Operation::Event(Event::Tick));
-    }
-    if same(word, b"trigger") {
-        return bare(text, next, Operation::Event(Event::Trigger));
-    }
-    if same(word, b"dump") {
-        return bare(text, next, Operation::Dump);
-    }
-    if same(word, b"poll") {
-        return bare(text, next, Operation::Poll);
-    }
-    event_of(word, text, next)
-}
-
-fn event_of(word: &[u8], text: &[u8], next: usize) -> Operation {
-    if same(word, b"pair") {
-        return pair_of(text, next);
-    }
-    if same(word, b"measured") {
-        return measured_of(text, next);
-    }
-    if same(word, b"raise") {
-        return raise_of(text, next);
-    }
-    Operation::Wrong
-}
-
-fn start_of(text: &[u8], start: usize) -> Operation {
-    let Field::Value(serial, second) = terminal::number_at(text, start, u32::MAX) else {
-        return Operation::Wrong;
-    };
-    let Field::Value(port, third) = terminal::number_at(text, second, u32::MAX) else {
-        return Operation::Wrong;
-    };
-    let Field::Value(one, fourth) = terminal::number_at(text, third, SLOTS) else {
-        return Operation::Wrong;
-    };
-    let Number::Value(two) = terminal::last_number_at(text, fourth, SLOTS) else {
-        return Operation::Wrong;
-    };
-    Operation::Start(serial, port, one as usize, two as usize)
-}
-
-// A line, whose bytes are put at the start of a buffer.
-fn line_of(text: &[u8], start: usize, bytes: &mut [u8]) -> Operation {
+// Bytes in hex, which are put at the start of a buffer.
+fn bytes_at(text: &[u8], start: usize, bytes: &mut [u8]) -> Field {
     if text.len() < start {
-        return Operation::Wrong;
+        return Field::Wrong;
     }
     let rest = &text[start..];
     let n = divide::span_of(rest, b' ');
     let Decoded::Bytes(len) = terminal::decode(&rest[0..n], bytes) else {
-        return Operation::Wrong;
+        return Field::Wrong;
     };
-    let Number::Value(room) = terminal::last_number_at(text, start + n + 1, ROOM) else {
-        return Operation::Wrong;
-    };
-    Operation::Line(len, room as usize)
-}
-
-fn check_of(text: &[u8], start: usize, bytes: &mut [u8]) -> Operation {
-    let Field::Value(capacity, second) = terminal::number_at(text, start, u32::MAX) else {
-        return Operation::Wrong;
-    };
-    if text.len() < second {
-        return Operation::Wrong;
+    if LINE_LIMIT < len {
+        return Field::Wrong;
     }
-    let Decoded::Bytes(len) = terminal::decode(&text[second..], bytes) else {
-        return Operation::Wrong;
-    };
-    Operation::Check(capacity, len)
+    Field::Value(len as u32, start + n + 1)
 }
 
-fn byte_of(text: &[u8], start: usize) -> Operation {
-    let Field::Value(b, second) = terminal::word_at(text, start, BYTE) else {
-        return Operation::Wrong;
-    };
-    let Field::Value(mark, third) = terminal::number_at(text, second, 1) else {
-        return Operation::Wrong;
-    };
-    let Number::Value(room) = terminal::last_number_at(text, third, ROOM) else {
-        return Operation::Wrong;
-    };
-    Operation::Byte((b % 256) as u8, mark == 1, room as usize)
+fn field_at(text: &[u8], start: usize, kind: u8, bytes: &mut [u8]) -> Field {
+    match kind {
+        b'w' => terminal::word_at(text, start, WORD),
+        b'h' => terminal::word_at(text, start, BYTE),
+        b'x' => bytes_at(text, start, bytes),
+        _ => terminal::number_at(text, start, most_of(kind)),
+    }
 }
 
-fn poke_of(text: &[u8], start: usize) -> Operation {
-    let Field::Value(trace, second) = terminal::number_at(text, start, TRACES) else {
-        return Operation::Wrong;
-    };
-    let Field::Value(slot, third) = terminal::number_at(text, second, u32::MAX) else {
-        return Operation::Wrong;
-    };
-    let Number::Value(word) = terminal::last_word_at(text, third, WORD) else {
-        return Operation::Wrong;
-    };
+// The fields of the operation with a number, the first of which starts at a place.
+fn fields_of(number: usize, text: &[u8], start: usize, bytes: &mut [u8]) -> Fields
+    requires { ⌜ number < 12 ⌝ }
+{
+    let kinds = KINDS;
+    let mut values = [0u32; FIELDS];
+    let mut next = start;
+    let mut i = 0;
+    while i < FIELDS {
+        let kind = kinds[FIELDS * number + i];
+        if kind == b' ' {
+            return Fields {
+                values,
+                right: text.len() < next,
+            };
+        }
+        let Field::Value(value, after) = field_at(text, next, kind, bytes) else {
+            return Fields {
+                values,
+                right: false,
+            };
+        };
+        values[i] = value;
+        next = after;
+        i += 1;
+    }
+    Fields {
+        values,
+        right: text.len() < next,
+    }
+}
+
+// A word for a slot of trace 1 or 2.
+fn poke(trace: u32, slot: u32, word: u32) -> Operation {
     if trace == 0 {
         return Operation::Wrong;
     }
     Operation::Poke(trace, slot as usize, word)
 }
 
-fn pair_of(text: &[u8], start: usize) -> Operation {
-    let Field::Value(one, second) = terminal::word_at(text, start, WORD) else {
-        return Operation::Wrong;
-    };
-    let Number::Value(two) = terminal::last_word_at(text, second, WORD) else {
-        return Operation::Wrong;
-    };
-    Operation::Event(Event::Latest(one, two))
+// The operation with a number and these fields.
+fn made(number: usize, v: [u32; FIELDS]) -> Operation {
+    match number {
+        0 => Operation::Start(v[0], v[1], v[2] as usize, v[3] as usize),
+        1 => Operation::Line(v[0] as usize, v[1] as usize),
+        2 => Operation::Byte((v[0] % 256) as u8, v[1] == 1, v[2] as usize),
+        3 => Operation::Event(Event::Latest(v[0], v[1])),
+        4 => Operation::Event(Event::Tick),
+        5 => Operation::Event(Event::Trigger),
+        6 => Operation::Event(Event::Measured(v[0])),
+        7 => Operation::Event(Event::Raised((v[0] % 256) as u8, (v[1] % 256) as u8)),
+        8 => poke(v[0], v[1], v[2]),
+        9 => Operation::Dump,
+        10 => Operation::Check(v[0], v[1] as usize),
+        _ => Operation::Poll,
+    }
 }
 
-fn measured_of(text: &[u8], start: usize) -> Operation {
-    let Number::Value(frequency) = terminal::last_number_at(text, start, u32::MAX) else {
+// The operation that a text asks for. The bytes of a line or a script are put at the start of a buffer.
+pub fn operation_of(text: &[u8], bytes: &mut [u8]) -> Operation {
+    let n = divide::span_of(text, b' ');
+    let number = number_of(&text[0..n]);
+    if OPERATIONS <= number {
         return Operation::Wrong;
-    };
-    Operation::Event(Event::Measured(frequency))
-}
-
-fn raise_of(text: &[u8], start: usize) -> Operation {
-    let Field::Value(lia, second) = terminal::number_at(text, start, LAST_BYTE) else {
-        return Operation::Wrong;
-    };
-    let Number::Value(errors) = terminal::last_number_at(text, second, LAST_BYTE) else {
-        return Operation::Wrong;
-    };
-    Operation::Event(Event::Raised((lia % 256) as u8, (errors % 256) as u8))
-}
-
-// An operation that has no field.
-fn bare(text: &[u8], start: usize, operation: Operation) -> Operation {
-    if text.len() < start {
-        return operation;
+    }
+    let fields = fields_of(number, text, n + 1, bytes);
+    let values = fields.values;
+    let right = fields.right;
+    if right {
+        return made(number, values);
     }
     Operation::Wrong
 }

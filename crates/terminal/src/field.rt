@@ -8,8 +8,8 @@ pub enum Field {
     Wrong,
 }
 
-// A number.
-pub enum Number {
+// A number by itself.
+enum Number {
     Value(u32),
     Wrong,
 }
@@ -21,6 +21,21 @@ const LARGEST: u64 = u32::MAX as u64;
 const DECIMAL: u8 = 10;
 
 const HEX: u8 = 16;
+
+// Whether two texts are the same.
+pub fn same(a: &[u8], b: &[u8]) -> bool {
+    if a.len() != b.len() {
+        return false;
+    }
+    let mut i = 0;
+    while i < a.len() {
+        if a[i] != b[i] {
+            return false;
+        }
+        i += 1;
+    }
+    true
+}
 
 // Digits moved by one place.
 fn moved(value: u64, base: u8) -> u64
@@ -103,23 +118,4 @@ pub fn word_at(text: &[u8], start: usize, digits: usize) -> Field {
         return Field::Wrong;
     };
     Field::Value(value, start + n + 1)
-}
-
-// The number of a field that is the text's last.
-fn last_of(text: &[u8], field: Field) -> Number {
-    let Field::Value(value, next) = field else {
-        return Number::Wrong;
-    };
-    if next <= text.len() {
-        return Number::Wrong;
-    }
-    Number::Value(value)
-}
-
-pub fn last_number_at(text: &[u8], start: usize, most: u32) -> Number {
-    last_of(text, number_at(text, start, most))
-}
-
-pub fn last_word_at(text: &[u8], start: usize, digits: usize) -> Number {
-    last_of(text, word_at(text, start, digits))
 }

@@ -1,6 +1,5 @@
 // A question told by its first field, and its answer.
 use crate::commands;
-use crate::output::put;
 use crate::values;
 
 enum Question {
@@ -14,40 +13,26 @@ enum Question {
     Unknown,
 }
 
-fn same(a: &[u8], b: &[u8]) -> bool {
-    if a.len() != b.len() {
-        return false;
-    }
-    let mut i = 0;
-    while i < a.len() {
-        if a[i] != b[i] {
-            return false;
-        }
-        i += 1;
-    }
-    true
-}
-
 fn question_of(word: &[u8]) -> Question {
-    if same(word, b"line") {
+    if terminal::same(word, b"line") {
         return Question::Line;
     }
-    if same(word, b"reply") {
+    if terminal::same(word, b"reply") {
         return Question::Reply;
     }
-    if same(word, b"valid") {
+    if terminal::same(word, b"valid") {
         return Question::Valid;
     }
-    if same(word, b"detect") {
+    if terminal::same(word, b"detect") {
         return Question::Detect;
     }
-    if same(word, b"cross") {
+    if terminal::same(word, b"cross") {
         return Question::Cross;
     }
-    if same(word, b"point") {
+    if terminal::same(word, b"point") {
         return Question::Point;
     }
-    if same(word, b"refusal") {
+    if terminal::same(word, b"refusal") {
         return Question::Refusal;
     }
     Question::Unknown
@@ -76,7 +61,7 @@ fn put_known(out: &mut [u8], at: usize, text: &[u8]) -> usize {
 pub fn put_answer(out: &mut [u8], at: usize, text: &[u8]) -> usize {
     let end = put_known(out, at, text);
     if end == at {
-        return put(out, at, b'?');
+        return terminal::put(out, at, b'?');
     }
     end
 }

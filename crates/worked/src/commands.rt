@@ -1,8 +1,4 @@
 // The question `line`: the commands of a line, read without running them.
-use crate::hex;
-use crate::output::first_of;
-use crate::output::put;
-use crate::output::put_all;
 use crate::output::put_next;
 use crate::output::put_text;
 use command::Kind;
@@ -10,6 +6,10 @@ use command::Parsed;
 use command::QueryArgument;
 use command::SetArgument;
 use refusal::Refusal;
+use terminal::Decoded;
+use terminal::first_of;
+use terminal::put;
+use terminal::put_all;
 use text::Text;
 
 // The channel of a setting's first entry, counted from 1: none is 0.
@@ -133,23 +133,13 @@ fn put_commands(out: &mut [u8], at: usize, text: &[u8]) -> usize {
     }
 }
 
-fn put_cleaned(out: &mut [u8], at: usize, line: &[u8]) -> usize {
-    let cleaned = clean::clean(line);
-    let bytes = cleaned.bytes;
-    put_commands(out, at, first_of(&bytes, cleaned.len))
-}
-
-// The answer for a line in hex, `-` where it is empty: nothing where it is not in hex or too long.
+// The answer for a line of at most 256 bytes in hex, `-` where it is empty: nothing where it is no such line.
 pub fn put_line(out: &mut [u8], at: usize, digits: &[u8]) -> usize {
-    if digits.len() == 1 {
-        if digits[0] == b'-' {
-            return put_commands(out, at, &digits[1..]);
-        }
-    }
-    let decoded = hex::decode(digits);
-    if decoded.len == 0 {
+    let mut bytes = [0u8; clean::LINE];
+    let Decoded::Bytes(len) = terminal::decode(digits, &mut bytes) else {
         return at;
-    }
-    let bytes = decoded.bytes;
-    put_cleaned(out, at, first_of(&bytes, decoded.len))
+    };
+    let cleaned = clean::clean(first_of(&bytes, len));
+    let text = cleaned.bytes;
+    put_commands(out, at, first_of(&text, cleaned.len))
 }

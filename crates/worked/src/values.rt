@@ -1,19 +1,21 @@
 // The questions about values: replies, a state's settings, frequencies, points and refusals. Each puts its answer, and nothing where it is no question.
-ghost use Prim.Native.Nat.{_≤_};
 use crate::field;
 use crate::field::Amount;
 use crate::field::Field;
-use crate::hex;
-use crate::output::put;
-use crate::output::put_all;
 use crate::output::put_next;
-use crate::output::put_number;
 use crate::output::put_text;
 use number::Argument;
 use number::Quantity;
 use refusal::Refusal;
 use settings::Settings;
+use terminal::Field as Read;
+use terminal::put;
+use terminal::put_all;
+use terminal::put_number;
 use text::Text;
+
+// How many digits a word has.
+const WORD_DIGITS: usize = 8;
 
 // A setting is asked about from -20000 to 2000000000 units: the bias that makes the least of them 0, and the most with it.
 const UNITS_BIAS: u32 = 20000;
@@ -185,27 +187,14 @@ pub fn put_cross(out: &mut [u8], at: usize, args: &[u8]) -> usize {
     put_next(out, end, crossing.bits as u32)
 }
 
-fn wide(b: u8) -> u32
-    ensures { λ r. ⌜ r ≤ 255 ⌝ }
-{
-    b as u32
-}
-
-// A word of four bytes, the high byte first.
-fn word_of(bytes: [u8; 256]) -> u32 {
-    let high = wide(bytes[0]) * 256 + wide(bytes[1]);
-    let low = wide(bytes[2]) * 256 + wide(bytes[3]);
-    high * 65536 + low
-}
-
 // Whether a word is a legal point, and the bytes that TRCL and TRCB send for it.
 fn put_word(out: &mut [u8], at: usize, word: u32) -> usize {
     let words = point::word_bytes(word);
     let floats = point::word_bytes(point::float_bits(word));
     let end = put_legal(out, at, point::legal(word));
-    let next = hex::put_bytes(out, end, words);
+    let next = terminal::put_bytes(out, end, &words);
     let space = put(out, next, b' ');
-    hex::put_bytes(out, space, floats)
+    terminal::put_bytes(out, space, &floats)
 }
 
 fn put_legal(out: &mut [u8], at: usize, legal: bool) -> usize {
@@ -216,12 +205,13 @@ fn put_legal(out: &mut [u8], at: usize, legal: bool) -> usize {
 }
 
 pub fn put_point(out: &mut [u8], at: usize, args: &[u8]) -> usize {
-    let decoded = hex::decode(args);
-    if decoded.len == 4 {
-        let bytes = decoded.bytes;
-        return put_word(out, at, word_of(bytes));
+    let Read::Value(word, next) = terminal::word_at(args, 0, WORD_DIGITS) else {
+        return at;
+    };
+    if next <= args.len() {
+        return at;
     }
-    at
+    put_word(out, at, word)
 }
 
 pub fn put_refusal(out: &mut [u8], at: usize, args: &[u8]) -> usize {

@@ -6,16 +6,19 @@ use Rattle.ops.proofs.take_all.Statement.{statement}
 use Rattle.ops.proofs.take_all.Tie as tie
 
 abbrev Inv-loop : tie.InvT-loop
-Inv-loop line₀ one₀ two₀ held₀ turns₀ line one two held turns = (length line ≡ length line₀) × (length one ≡ length one₀) × (length two ≡ length two₀)
+Inv-loop chunk₀ line₀ one₀ two₀ latest₀ waiting₀ turns₀ chunk line one two latest waiting turns = (length chunk ≡ length chunk₀) × (length line ≡ length line₀) × (length one ≡ length one₀) × (length two ≡ length two₀)
 
 abbrev μ-loop : tie.MeasureT-loop
-μ-loop line₀ one₀ two₀ held₀ turns₀ line one two held turns = turns
+μ-loop chunk₀ line₀ one₀ two₀ latest₀ waiting₀ turns₀ chunk line one two latest waiting turns = turns
+
+none-waiting-requires : tie.Need-none-waiting-requires Inv-loop μ-loop
+none-waiting-requires c κs = search needs
 
 loop-holds : tie.Need-loop-holds Inv-loop μ-loop
 loop-holds c = search needs
 
-take-some-requires : tie.Need-take-some-requires Inv-loop μ-loop
-take-some-requires c κs = search needs
+take-next-requires : tie.Need-take-next-requires Inv-loop μ-loop
+take-next-requires c κs = search needs
 
 same-length : tie.Need-same-length Inv-loop μ-loop
 same-length c = search needs
@@ -25,6 +28,9 @@ same-length-2 c = search needs
 
 same-length-3 : tie.Need-same-length-3 Inv-loop μ-loop
 same-length-3 c = search needs
+
+same-length-4 : tie.Need-same-length-4 Inv-loop μ-loop
+same-length-4 c = search needs
 
 returns : tie.Need-returns Inv-loop μ-loop
 returns c = search needs
@@ -38,14 +44,17 @@ loop-less c = search needs
 loop-again : tie.Need-loop-again Inv-loop μ-loop
 loop-again c = search needs
 
-same-length-4 : tie.Need-same-length-4 Inv-loop μ-loop
-same-length-4 c = search needs
-
 same-length-5 : tie.Need-same-length-5 Inv-loop μ-loop
 same-length-5 c = search needs
 
 same-length-6 : tie.Need-same-length-6 Inv-loop μ-loop
 same-length-6 c = search needs
+
+same-length-7 : tie.Need-same-length-7 Inv-loop μ-loop
+same-length-7 c = search needs
+
+same-length-8 : tie.Need-same-length-8 Inv-loop μ-loop
+same-length-8 c = search needs
 
 returns-2 : tie.Need-returns-2 Inv-loop μ-loop
 returns-2 c = search needs
@@ -56,16 +65,19 @@ take-all-spec =
     (tie.spec
     Inv-loop
     μ-loop
+    none-waiting-requires
     loop-holds
-    take-some-requires
+    take-next-requires
     same-length
     same-length-2
     same-length-3
+    same-length-4
     returns
     sub-turns
     loop-less
     loop-again
-    same-length-4
     same-length-5
     same-length-6
+    same-length-7
+    same-length-8
     returns-2)

@@ -6,25 +6,28 @@ use Rattle.worked.proofs.take_all.Statement.{statement}
 use Rattle.worked.proofs.take_all.Tie as tie
 
 abbrev Inv-loop : tie.InvT-loop
-Inv-loop line₀ len₀ turns₀ line len turns = length line ≡ length line₀
+Inv-loop chunk₀ line₀ waiting₀ turns₀ chunk line waiting turns = (length chunk ≡ length chunk₀) × (length line ≡ length line₀)
 
 abbrev μ-loop : tie.MeasureT-loop
-μ-loop line₀ len₀ turns₀ line len turns = turns
+μ-loop chunk₀ line₀ waiting₀ turns₀ chunk line waiting turns = turns
+
+none-waiting-requires : tie.Need-none-waiting-requires Inv-loop μ-loop
+none-waiting-requires c κs = search needs
 
 loop-holds : tie.Need-loop-holds Inv-loop μ-loop
 loop-holds c = search needs
 
-take-some-requires : tie.Need-take-some-requires Inv-loop μ-loop
-take-some-requires c κs = search needs
+next-line-requires : tie.Need-next-line-requires Inv-loop μ-loop
+next-line-requires c κs = search needs
 
-enum-known-next : tie.Need-enum-known-next Inv-loop μ-loop
-enum-known-next c = search needs
-
-enum-told : tie.Need-enum-told Inv-loop μ-loop
-enum-told c = search needs
+take-line-requires : tie.Need-take-line-requires Inv-loop μ-loop
+take-line-requires c κs = search needs
 
 same-length : tie.Need-same-length Inv-loop μ-loop
 same-length c = search needs
+
+same-length-2 : tie.Need-same-length-2 Inv-loop μ-loop
+same-length-2 c = search needs
 
 returns : tie.Need-returns Inv-loop μ-loop
 returns c = search needs
@@ -38,8 +41,11 @@ loop-less c = search needs
 loop-again : tie.Need-loop-again Inv-loop μ-loop
 loop-again c = search needs
 
-same-length-2 : tie.Need-same-length-2 Inv-loop μ-loop
-same-length-2 c = search needs
+same-length-3 : tie.Need-same-length-3 Inv-loop μ-loop
+same-length-3 c = search needs
+
+same-length-4 : tie.Need-same-length-4 Inv-loop μ-loop
+same-length-4 c = search needs
 
 returns-2 : tie.Need-returns-2 Inv-loop μ-loop
 returns-2 c = search needs
@@ -50,14 +56,16 @@ take-all-spec =
     (tie.spec
     Inv-loop
     μ-loop
+    none-waiting-requires
     loop-holds
-    take-some-requires
-    enum-known-next
-    enum-told
+    next-line-requires
+    take-line-requires
     same-length
+    same-length-2
     returns
     sub-turns
     loop-less
     loop-again
-    same-length-2
+    same-length-3
+    same-length-4
     returns-2)

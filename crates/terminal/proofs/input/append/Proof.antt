@@ -1,10 +1,10 @@
--- `operations::append` is safe and ends: the buffer keeps its length, the index stays within the part. Assumes nothing.
+-- `terminal::input::append` is safe and ends: the buffer keeps its length, the index stays within the part. Assumes nothing.
 use Prim.Native.Nat.{_≤_, _-_}
 use mathlib.Core.Path.{_≡_}
 use lib.ListN.{length}
 use borrow.Author.Needs.{needs}
-use Rattle.operations.proofs.append.Statement.{statement}
-use Rattle.operations.proofs.append.Tie as tie
+use Rattle.terminal.proofs.input.append.Statement.{statement}
+use Rattle.terminal.proofs.input.append.Tie as tie
 
 abbrev Inv-loop : tie.InvT-loop
 Inv-loop line₀ len part i₀ line i = (length line ≡ length line₀) × (i ≤ length part)
