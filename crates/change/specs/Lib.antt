@@ -1,3 +1,2 @@
--- What a command needs of the state, and what it changes.
-pub mod Allows
+-- What a command changes.
 pub mod Change

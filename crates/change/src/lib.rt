@@ -1,6 +1,5 @@
-// What a command needs of the state, and what it changes: refusal 3, the settings, what events change too, the registers and the enables.
+// What a command changes: the settings, what events change too, the registers and the enables.
 ghost use mathlib.Core.Path.{_≡_};
-ghost use Rattle.change.specs.Allows.{valueAllowed, keepsLimit, setAllowed, queryAllowed, allowsOf};
 ghost use Rattle.change.specs.Change.{withPair, setIn, isReset, restoredBy, settingsAfter, unstored, storageBy, storageAfter, externalBy, externalAfter, movingAfter, registersAsked, registersBy, registersAfter, enablesSet, enablesAfter, changedBy, stateAfter};
 use command::Kind;
 use command::QueryArgument;
@@ -14,77 +13,6 @@ use status::Registers;
 use storage::Sampled;
 use storage::Sampling;
 use storage::Storage;
-
-// Whether the detection frequency stays at most 102 kHz with another value at an entry.
-fn keeps_limit(s: Settings, m: Moving, entry: usize, value: u32) -> bool
-    ensures { λ r. ⌜ r ≡ keepsLimit s m entry value ⌝ }
-{
-    let changed = settings::with_value(s, entry, value);
-    settings::within_limit(settings::detection(changed, m.external))
-}
-
-// Whether a setting's value is allowed.
-fn value_allowed(s: Settings, m: Moving, entry: usize, value: u32) -> bool
-    ensures { λ r. ⌜ r ≡ valueAllowed s m entry value ⌝ }
-{
-    if entry == settings::FREQ {
-        if settings::value_of(s, settings::FMOD) == settings::INTERNAL {
-            return keeps_limit(s, m, entry, value);
-        }
-        return false;
-    }
-    if entry == settings::HARM {
-        return keeps_limit(s, m, entry, value);
-    }
-    if entry == settings::FMOD {
-        return keeps_limit(s, m, entry, value);
-    }
-    if entry == settings::OFLT {
-        return settings::time_constant_stands(settings::detection(s, m.external), value);
-    }
-    if entry == settings::SEND {
-        return storage::is_reset(m.storage);
-    }
-    true
-}
-
-fn set_allowed(s: Settings, m: Moving, a: SetArgument) -> bool
-    ensures { λ r. ⌜ r ≡ setAllowed s m a ⌝ }
-{
-    match a {
-        SetArgument::Value(entry, value) => value_allowed(s, m, entry, value),
-        SetArgument::Pair(_, _, _) => true,
-        SetArgument::Enable(_, _) => true,
-        SetArgument::EnableBit(_, _, _) => true,
-    }
-}
-
-fn query_allowed(m: Moving, q: QueryArgument) -> bool
-    ensures { λ r. ⌜ r ≡ queryAllowed m q ⌝ }
-{
-    match q {
-        QueryArgument::Trace(_, _, bin, count) => storage::holds(m.storage, bin, count),
-        QueryArgument::Value(_) => true,
-        QueryArgument::Pair(_) => true,
-        QueryArgument::Enable(_) => true,
-        QueryArgument::EnableBit(_, _) => true,
-        QueryArgument::Status(_) => true,
-        QueryArgument::StatusBit(_, _) => true,
-        QueryArgument::Identity => true,
-        QueryArgument::Points => true,
-    }
-}
-
-// Whether a command is allowed: refused by 3 where it is not.
-pub fn allows(s: Settings, m: Moving, kind: Kind) -> bool
-    ensures { λ r. ⌜ r ≡ allowsOf s m kind ⌝ }
-{
-    match kind {
-        Kind::Set(a) => set_allowed(s, m, a),
-        Kind::Query(q) => query_allowed(m, q),
-        Kind::Act(_) => true,
-    }
-}
 
 // The settings with two values, the second at the entry behind the first's.
 fn pair_in(s: Settings, entry: usize, first: u32, second: u32) -> Settings

@@ -17,7 +17,7 @@ use Rattle.command.specs.declared.Kind.the-variants.{Set, Query, Act}
 use Rattle.state.specs.State.{samplingOf, detectionNow, crossedFrom}
 use Rattle.state.specs.declared.Moving.{Moving}
 use Rattle.state.specs.declared.State.{State}
-use Rattle.change.specs.Allows.{keepsLimit, valueAllowed, setAllowed, allowsOf}
+use Rattle.allow.specs.Allows.{keepsLimit, valueAllowed, setAllowed, allowsOf}
 use Rattle.change.specs.Change.{withPair, setIn, isReset, restoredBy, settingsAfter, storageAfter, movingAfter, changedBy, stateAfter}
 
 pub record Alike (s t : Settings) : Type 0 where

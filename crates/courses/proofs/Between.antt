@@ -26,7 +26,7 @@ use Rattle.command.specs.declared.Kind.{Kind}
 use Rattle.command.specs.declared.Kind.the-variants.{Set, Query, Act}
 use Rattle.state.specs.State.{samplingOf, startMoving}
 use Rattle.state.specs.declared.Moving.{Moving}
-use Rattle.change.specs.Allows.{keepsLimit, valueAllowed, setAllowed, queryAllowed, allowsOf}
+use Rattle.allow.specs.Allows.{keepsLimit, valueAllowed, setAllowed, queryAllowed, allowsOf}
 use Rattle.change.specs.Change.{withPair, setIn, restoredBy, settingsAfter, storageBy, storageAfter, externalBy, externalAfter, movingAfter}
 use Rattle.demands.proofs.Sane.{Sane}
 use Rattle.courses.proofs.Storages.{Low, low-emptied, low-started, low-paused, low-triggered, reset-started, reset-paused, triggered-reset}

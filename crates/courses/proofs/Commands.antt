@@ -16,7 +16,7 @@ use Rattle.command.specs.declared.Kind.the-variants.{Set, Query, Act}
 use Rattle.command.specs.declared.Parsed.{Parsed}
 use Rattle.command.specs.declared.Parsed.the-variants as parsed
 use Rattle.state.specs.declared.State.{State}
-use Rattle.change.specs.Allows.{allowsOf}
+use Rattle.allow.specs.Allows.{allowsOf}
 use Rattle.change.specs.Change.{restoredBy, settingsAfter, storageBy, storageAfter, externalBy, externalAfter, movingAfter, stateAfter}
 use Rattle.reply.specs.Reply.{fitsIn}
 use Rattle.answer.specs.Reply.{replyOf}

@@ -14,7 +14,7 @@ use Rattle.command.specs.Parsed.{parsedOf}
 use Rattle.command.specs.declared.Kind.{Kind}
 use Rattle.command.specs.declared.Parsed.{Parsed}
 use Rattle.command.specs.declared.Parsed.the-variants as parsed
-use Rattle.change.specs.Allows.{allowsOf}
+use Rattle.allow.specs.Allows.{allowsOf}
 use Rattle.line.specs.Line.{textsOf}
 use Rattle.line.specs.declared.Answer.the-variants.{Passed, Refused}
 use Rattle.script.specs.Check.{resets, gapOf, kindRefusal, textRefusal, kindAfter, textAfter, textsAnswer, textsAfter, tooLong}

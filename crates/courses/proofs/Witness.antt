@@ -25,7 +25,7 @@ use Rattle.state.specs.State.{detectionNow, crossedFrom}
 use Rattle.state.specs.Storing.{triggerOf, sampledBy}
 use Rattle.state.specs.declared.Moving.{Moving}
 use Rattle.state.specs.declared.State.{State}
-use Rattle.change.specs.Allows.{allowsOf}
+use Rattle.allow.specs.Allows.{allowsOf}
 use Rattle.change.specs.Change.{movingAfter, stateAfter}
 use Rattle.line.specs.Perform.{doneBy, performed, commandOf}
 use Rattle.line.specs.Line.{Line, drops, waits, afterOf, stepOf, runAll}

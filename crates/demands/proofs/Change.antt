@@ -38,7 +38,7 @@ use Rattle.state.specs.declared.Unit.{Unit}
 use Rattle.state.specs.declared.Pair.{Pair}
 use Rattle.state.specs.declared.Moving.{Moving}
 use Rattle.state.specs.declared.State.{State}
-use Rattle.change.specs.Allows.{keepsLimit, valueAllowed, setAllowed, allowsOf}
+use Rattle.allow.specs.Allows.{keepsLimit, valueAllowed, setAllowed, allowsOf}
 use Rattle.change.specs.Change.{withPair, setIn, restoredBy, settingsAfter, storageBy, storageAfter, externalBy, externalAfter, movingAfter, registersAsked, registersBy, registersAfter, enablesSet, enablesAfter, changedBy, stateAfter}
 use Rattle.event.proofs.Crossed.{sound, stands-now, sound-allowed, crossed-allowed}
 use Rattle.demands.proofs.Sane.{channelLow, channelHigh, SaneSet, Sane}

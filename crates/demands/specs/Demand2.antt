@@ -23,7 +23,7 @@ use Rattle.command.specs.declared.Kind.{Kind}
 use Rattle.command.specs.declared.Kind.the-variants.{Set, Query}
 use Rattle.state.specs.Allowed.{allowedState}
 use Rattle.state.specs.declared.State.{State}
-use Rattle.change.specs.Allows.{allowsOf}
+use Rattle.allow.specs.Allows.{allowsOf}
 use Rattle.change.specs.Change.{stateAfter}
 use Rattle.answer.specs.Reply.{textOf}
 

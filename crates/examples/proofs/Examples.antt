@@ -23,7 +23,7 @@ use Rattle.reply.specs.Reply.{fitsIn, wordAt, formed, pointBytes}
 use Rattle.state.specs.State.{startState, detectionNow, crossedFrom, markedBy, samplingOf}
 use Rattle.state.specs.Storing.{storedIn}
 use Rattle.state.specs.Allowed.{keepsUnit, keepsLatest, keepsParts, allowedState}
-use Rattle.change.specs.Allows.{keepsLimit, valueAllowed, setAllowed, queryAllowed, allowsOf}
+use Rattle.allow.specs.Allows.{keepsLimit, valueAllowed, setAllowed, queryAllowed, allowsOf}
 use Rattle.change.specs.Change.{setIn, restoredBy, settingsAfter, storageBy, storageAfter, movingAfter, changedBy, stateAfter}
 use Rattle.answer.specs.Reply.{valueNow, valueText, textOf, endedText, traceReply, queryReply, replyOf}
 use Rattle.line.specs.Perform.{doneBy, performed, commandOf}

@@ -10,7 +10,7 @@ use Rattle.refusal.specs.declared.Outcome.the-variants.{Done}
 use Rattle.command.specs.declared.Kind.{Kind}
 use Rattle.state.specs.Storing.{storedIn}
 use Rattle.state.specs.declared.State.{State}
-use Rattle.change.specs.Allows.{allowsOf}
+use Rattle.allow.specs.Allows.{allowsOf}
 use Rattle.change.specs.Change.{stateAfter}
 use Rattle.reply.specs.Reply.{over, fitsIn, sentOf, sentBytes}
 use Rattle.reply.proofs.Over.{over-none, sentBytes-length, sent-written}

@@ -15,7 +15,7 @@ use Rattle.storage.specs.declared.Sampled.{Sampled}
 use Rattle.state.specs.State.{markedBy}
 use Rattle.state.specs.Storing.{storedIn}
 use Rattle.state.specs.declared.State.{State}
-use Rattle.change.specs.Allows.{allowsOf}
+use Rattle.allow.specs.Allows.{allowsOf}
 use Rattle.change.specs.Change.{storageAfter, stateAfter}
 use Rattle.reply.specs.Reply.{over, fitsIn}
 use Rattle.answer.specs.Reply.{replyOf}

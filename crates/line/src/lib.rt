@@ -59,7 +59,7 @@ fn perform(
 {
     let kind = c.kind;
     let moving = s.moving;
-    let allowed = change::allows(s.settings, moving, kind);
+    let allowed = allow::allows(s.settings, moving, kind);
     if allowed {
         let sent = answer::send_reply(s, kind, waiting, &one[..], &two[..], out);
         let fits = sent.fits;

@@ -21,7 +21,7 @@ use Rattle.command.specs.declared.Parsed.{Parsed}
 use Rattle.command.specs.declared.Parsed.the-variants as parsed
 use Rattle.state.specs.State.{samplingOf, startMoving}
 use Rattle.state.specs.declared.Moving.{Moving}
-use Rattle.change.specs.Allows.{allowsOf}
+use Rattle.allow.specs.Allows.{allowsOf}
 use Rattle.change.specs.Change.{isReset, settingsAfter, movingAfter}
 use Rattle.line.specs.Line.{textsOf}
 use Rattle.line.specs.declared.Answer.{Answer}

@@ -104,8 +104,8 @@ fn kind_refusal(kind: Kind, b: Both) -> Outcome
     if begun {
         let low = b.low;
         let high = b.high;
-        if change::allows(b.settings, low, kind) {
-            if change::allows(b.settings, high, kind) {
+        if allow::allows(b.settings, low, kind) {
+            if allow::allows(b.settings, high, kind) {
                 return Outcome::Done;
             }
             return Outcome::Refused(Refusal::NotAllowed);

@@ -1,8 +1,8 @@
--- `change::allows` meets its contract. Assumes nothing.
+-- `allow::allows` meets its contract. Assumes nothing.
 use borrow.Author.Needs.{needs}
-use Rattle.change.specs.Allows.{allowsOf}
-use Rattle.change.proofs.allows.Statement.{statement}
-use Rattle.change.proofs.allows.Tie as tie
+use Rattle.allow.specs.Allows.{allowsOf}
+use Rattle.allow.proofs.allows.Statement.{statement}
+use Rattle.allow.proofs.allows.Tie as tie
 
 enum-known-kind : tie.Need-enum-known-kind
 enum-known-kind c = search needs

@@ -1,8 +1,8 @@
--- `change::set_allowed` meets its contract. Assumes nothing.
+-- `allow::set_allowed` meets its contract. Assumes nothing.
 use borrow.Author.Needs.{needs}
-use Rattle.change.specs.Allows.{setAllowed}
-use Rattle.change.proofs.set_allowed.Statement.{statement}
-use Rattle.change.proofs.set_allowed.Tie as tie
+use Rattle.allow.specs.Allows.{setAllowed}
+use Rattle.allow.proofs.set_allowed.Statement.{statement}
+use Rattle.allow.proofs.set_allowed.Tie as tie
 
 enum-known-a : tie.Need-enum-known-a
 enum-known-a c = search needs

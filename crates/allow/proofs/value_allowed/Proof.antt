@@ -1,10 +1,10 @@
--- `change::value_allowed` meets its contract. Assumes nothing.
+-- `allow::value_allowed` meets its contract. Assumes nothing.
 use borrow.Author.Tests.{eq-eqb, ne-eqb}
 use mathlib.Core.Path.{sym}
 use borrow.Author.Needs.{needs}
-use Rattle.change.specs.Allows.{valueAllowed}
-use Rattle.change.proofs.value_allowed.Statement.{statement}
-use Rattle.change.proofs.value_allowed.Tie as tie
+use Rattle.allow.specs.Allows.{valueAllowed}
+use Rattle.allow.proofs.value_allowed.Statement.{statement}
+use Rattle.allow.proofs.value_allowed.Tie as tie
 
 value-of-requires : tie.Need-value-of-requires
 value-of-requires c κs = search needs

@@ -1,8 +1,8 @@
--- `change::keeps_limit` meets its contract. Assumes nothing.
+-- `allow::keeps_limit` meets its contract. Assumes nothing.
 use borrow.Author.Needs.{needs}
-use Rattle.change.specs.Allows.{keepsLimit}
-use Rattle.change.proofs.keeps_limit.Statement.{statement}
-use Rattle.change.proofs.keeps_limit.Tie as tie
+use Rattle.allow.specs.Allows.{keepsLimit}
+use Rattle.allow.proofs.keeps_limit.Statement.{statement}
+use Rattle.allow.proofs.keeps_limit.Tie as tie
 
 with-value-requires : tie.Need-with-value-requires
 with-value-requires c κs = search needs

@@ -1,8 +1,8 @@
--- `change::query_allowed` meets its contract. Assumes nothing.
+-- `allow::query_allowed` meets its contract. Assumes nothing.
 use borrow.Author.Needs.{needs}
-use Rattle.change.specs.Allows.{queryAllowed}
-use Rattle.change.proofs.query_allowed.Statement.{statement}
-use Rattle.change.proofs.query_allowed.Tie as tie
+use Rattle.allow.specs.Allows.{queryAllowed}
+use Rattle.allow.proofs.query_allowed.Statement.{statement}
+use Rattle.allow.proofs.query_allowed.Tie as tie
 
 enum-known-q : tie.Need-enum-known-q
 enum-known-q c = search needs

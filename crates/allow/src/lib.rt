@@ -1,0 +1,79 @@
+// What a command needs of the state: refusal 3.
+ghost use mathlib.Core.Path.{_≡_};
+ghost use Rattle.allow.specs.Allows.{valueAllowed, keepsLimit, setAllowed, queryAllowed, allowsOf};
+use command::Kind;
+use command::QueryArgument;
+use command::SetArgument;
+use settings::Settings;
+use state::Moving;
+
+// Whether the detection frequency stays at most 102 kHz with another value at an entry.
+fn keeps_limit(s: Settings, m: Moving, entry: usize, value: u32) -> bool
+    ensures { λ r. ⌜ r ≡ keepsLimit s m entry value ⌝ }
+{
+    let changed = settings::with_value(s, entry, value);
+    settings::within_limit(settings::detection(changed, m.external))
+}
+
+// Whether a setting's value is allowed.
+fn value_allowed(s: Settings, m: Moving, entry: usize, value: u32) -> bool
+    ensures { λ r. ⌜ r ≡ valueAllowed s m entry value ⌝ }
+{
+    if entry == settings::FREQ {
+        if settings::value_of(s, settings::FMOD) == settings::INTERNAL {
+            return keeps_limit(s, m, entry, value);
+        }
+        return false;
+    }
+    if entry == settings::HARM {
+        return keeps_limit(s, m, entry, value);
+    }
+    if entry == settings::FMOD {
+        return keeps_limit(s, m, entry, value);
+    }
+    if entry == settings::OFLT {
+        return settings::time_constant_stands(settings::detection(s, m.external), value);
+    }
+    if entry == settings::SEND {
+        return storage::is_reset(m.storage);
+    }
+    true
+}
+
+fn set_allowed(s: Settings, m: Moving, a: SetArgument) -> bool
+    ensures { λ r. ⌜ r ≡ setAllowed s m a ⌝ }
+{
+    match a {
+        SetArgument::Value(entry, value) => value_allowed(s, m, entry, value),
+        SetArgument::Pair(_, _, _) => true,
+        SetArgument::Enable(_, _) => true,
+        SetArgument::EnableBit(_, _, _) => true,
+    }
+}
+
+fn query_allowed(m: Moving, q: QueryArgument) -> bool
+    ensures { λ r. ⌜ r ≡ queryAllowed m q ⌝ }
+{
+    match q {
+        QueryArgument::Trace(_, _, bin, count) => storage::holds(m.storage, bin, count),
+        QueryArgument::Value(_) => true,
+        QueryArgument::Pair(_) => true,
+        QueryArgument::Enable(_) => true,
+        QueryArgument::EnableBit(_, _) => true,
+        QueryArgument::Status(_) => true,
+        QueryArgument::StatusBit(_, _) => true,
+        QueryArgument::Identity => true,
+        QueryArgument::Points => true,
+    }
+}
+
+// Whether a command is allowed: refused by 3 where it is not.
+pub fn allows(s: Settings, m: Moving, kind: Kind) -> bool
+    ensures { λ r. ⌜ r ≡ allowsOf s m kind ⌝ }
+{
+    match kind {
+        Kind::Set(a) => set_allowed(s, m, a),
+        Kind::Query(q) => query_allowed(m, q),
+        Kind::Act(_) => true,
+    }
+}
