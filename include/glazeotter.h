@@ -2,9 +2,9 @@
  *
  * Link with libconsole.a, which `rt staticlib console` writes to target/staticlib/.
  *
- * The check's own proofs are in Rattle (crates/console, crates/script, crates/courses).
- * They cover neither this header nor a caller in C: that the arguments are as asked below
- * is the caller's part.
+ * The check's own proofs are in Rattle (crates/console, crates/script, crates/two_courses,
+ * crates/courses). They cover neither this header nor a caller in C: that the arguments are
+ * as asked below is the caller's part.
  */
 #ifndef GLAZEOTTER_H
 #define GLAZEOTTER_H

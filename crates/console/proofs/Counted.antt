@@ -17,8 +17,9 @@ use Rattle.line.specs.Line.{semicolon, textsOf}
 use Rattle.line.specs.declared.Answer.{Answer}
 use Rattle.line.specs.declared.Answer.the-variants.{Passed, Refused}
 use Rattle.line.proofs.Cleaned.{cleaned-length}
-use Rattle.script.specs.Check.{gapOf, textRefusal, textAfter, answerAt, textsAnswer, textsAfter, tooLong, verdictOf, linesVerdict, withoutLast, linesOf, capacityFits, startBoth, checkOf}
-use Rattle.script.specs.declared.Both.{Both}
+use Rattle.two_courses.specs.Courses.{gapOf, textRefusal, textAfter, startBoth}
+use Rattle.two_courses.specs.declared.Both.{Both}
+use Rattle.script.specs.Check.{answerAt, textsAnswer, textsAfter, tooLong, verdictOf, linesVerdict, withoutLast, linesOf, capacityFits, checkOf}
 use Rattle.script.specs.declared.Verdict.{Verdict}
 use Rattle.script.specs.declared.Verdict.the-variants.{Fine, No}
 use Rattle.console.specs.Number.{lineMost, placeMost}

@@ -23,8 +23,9 @@ use Rattle.answer.specs.Reply.{replyOf}
 use Rattle.line.specs.Perform.{Effect, refusedBy, doneBy, performed, commandOf}
 use Rattle.line.specs.Line.{Line, firstOf, isNoRoom, drops, waits, afterOf, stepOf, runAll}
 use Rattle.line.specs.declared.Answer.the-variants.{Passed, Refused}
-use Rattle.script.specs.Check.{resets, kindRefusal, textRefusal, kindAfter, textAfter, textsAnswer, textsAfter}
-use Rattle.script.specs.declared.Both.{Both}
+use Rattle.two_courses.specs.Courses.{resets, kindRefusal, textRefusal, kindAfter, textAfter}
+use Rattle.two_courses.specs.declared.Both.{Both}
+use Rattle.script.specs.Check.{textsAnswer, textsAfter}
 use Rattle.demands.proofs.Sane.{Sane, SaneParsed, parsed-sane}
 use Rattle.courses.proofs.Alike.{alike-then, alike-allows, alike-after, alike-moving, after-settings, after-moving, after-unit}
 use Rattle.courses.proofs.Between.{command-goes, reset-goes}

@@ -11,8 +11,9 @@ use Rattle.refusal.specs.declared.Outcome.the-variants as outcome
 use Rattle.line.specs.Line.{textsOf}
 use Rattle.line.specs.declared.Answer.{Answer}
 use Rattle.line.specs.declared.Answer.the-variants.{Passed, Refused}
-use Rattle.script.specs.Check.{gapOf, answerAt, textsAnswer, textsAfter, tooLong, verdictOf, linesVerdict}
-use Rattle.script.specs.declared.Both.{Both}
+use Rattle.two_courses.specs.Courses.{gapOf}
+use Rattle.two_courses.specs.declared.Both.{Both}
+use Rattle.script.specs.Check.{answerAt, textsAnswer, textsAfter, tooLong, verdictOf, linesVerdict}
 use Rattle.script.specs.declared.Verdict.{Verdict}
 use Rattle.script.specs.declared.Verdict.the-variants.{Fine, No}
 

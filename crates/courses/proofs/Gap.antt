@@ -22,7 +22,7 @@ use Rattle.event.specs.Event.{withLatest, legalPair, pairTaken, takesFrequency,
 use Rattle.event.specs.declared.Event.{Event}
 use Rattle.event.specs.declared.Event.the-variants.{Latest, Tick, Trigger, Measured, Raised}
 use Rattle.status.specs.Status.{withLia, mayRaise}
-use Rattle.script.specs.Check.{measuredHigh, triggeredHigh}
+use Rattle.two_courses.specs.Courses.{measuredHigh, triggeredHigh}
 use Rattle.courses.proofs.Alike.{Alike, alike-then, alike-value, alike-sampling, crossed-settings, crossed-moving}
 use Rattle.courses.proofs.Storages.{Low, low-ticked, low-event, reset-started, ticked-reset, triggered-reset}
 use Rattle.courses.proofs.Between.{Between}

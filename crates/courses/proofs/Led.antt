@@ -13,8 +13,9 @@ use Rattle.command.specs.declared.Parsed.{Parsed}
 use Rattle.command.specs.declared.Parsed.the-variants as parsed
 use Rattle.line.specs.Line.{textsOf}
 use Rattle.line.specs.declared.Answer.the-variants.{Passed, Refused}
-use Rattle.script.specs.Check.{resets, gapOf, kindRefusal, textRefusal, kindAfter, textAfter, textsAnswer, textsAfter}
-use Rattle.script.specs.declared.Both.{Both}
+use Rattle.two_courses.specs.Courses.{resets, gapOf, kindRefusal, textRefusal, kindAfter, textAfter}
+use Rattle.two_courses.specs.declared.Both.{Both}
+use Rattle.script.specs.Check.{textsAnswer, textsAfter}
 use Rattle.courses.specs.Demand3.{Lead, none, first, leadBy, leadIn, orElse, leadFrom, isReset, begins}
 use Rattle.courses.proofs.Found as found
 use Rattle.courses.proofs.Found.{fine, stop, lineAnswer, never, not-passed, not-done, found-fine, found-none, found-here, found-later, end-stop, answer-passed, answer-split}

@@ -17,8 +17,9 @@ use Rattle.command.specs.declared.Parsed.the-variants as parsed
 use Rattle.allow.specs.Allows.{allowsOf}
 use Rattle.line.specs.Line.{textsOf}
 use Rattle.line.specs.declared.Answer.the-variants.{Passed, Refused}
-use Rattle.script.specs.Check.{resets, gapOf, kindRefusal, textRefusal, kindAfter, textAfter, textsAnswer, textsAfter, tooLong}
-use Rattle.script.specs.declared.Both.{Both}
+use Rattle.two_courses.specs.Courses.{resets, gapOf, kindRefusal, textRefusal, kindAfter, textAfter}
+use Rattle.two_courses.specs.declared.Both.{Both}
+use Rattle.script.specs.Check.{textsAnswer, textsAfter, tooLong}
 use Rattle.demands.proofs.Sane.{SaneParsed, parsed-sane}
 use Rattle.courses.proofs.Found as found
 use Rattle.courses.proofs.Found.{fine, stop, lineAnswer, not-passed, not-done, found-fine, found-none, found-here, found-later, end-stop, answer-split}

@@ -16,8 +16,9 @@ use Rattle.event.proofs.Crossed.{sound}
 use Rattle.line.specs.Line.{startLine, textsOf, lineOf}
 use Rattle.line.specs.declared.Answer.the-variants.{Passed, Refused}
 use Rattle.module.specs.Module.{allowedModule, guardOf}
-use Rattle.script.specs.Check.{gapOf, measuredHigh, textsAnswer, textsAfter, tooLong}
-use Rattle.script.specs.declared.Both.{Both}
+use Rattle.two_courses.specs.Courses.{gapOf, measuredHigh}
+use Rattle.two_courses.specs.declared.Both.{Both}
+use Rattle.script.specs.Check.{textsAnswer, textsAfter, tooLong}
 use Rattle.courses.specs.Course.{World, lineIn, afterLine, afterEvent, afterEvents, Gap, Gaps, after, crowded, Roomy, answerOf}
 use Rattle.courses.proofs.Alike.{Alike}
 use Rattle.courses.proofs.Found as found

@@ -16,8 +16,9 @@ use Rattle.line.specs.Line.{startLine, textsOf, lineOf}
 use Rattle.line.specs.declared.Answer.the-variants.{Passed, Refused}
 use Rattle.module.specs.Module.{guardOf}
 use Rattle.lockin.specs.Calls.{guarded, wholeLine, lineCall, guardedEvent, eventCall}
-use Rattle.script.specs.Check.{gapOf, textsAnswer, textsAfter, tooLong}
-use Rattle.script.specs.declared.Both.{Both}
+use Rattle.two_courses.specs.Courses.{gapOf}
+use Rattle.two_courses.specs.declared.Both.{Both}
+use Rattle.script.specs.Check.{textsAnswer, textsAfter, tooLong}
 use Rattle.demands.proofs.States.{states-stay}
 use Rattle.demands.proofs.StaysAllowed.{stays-allowed}
 use Rattle.courses.specs.Course.{World, lineIn, afterLine, afterEvent, afterEvents, Gap, Gaps, before, after, crowded, Roomy, answerOf}

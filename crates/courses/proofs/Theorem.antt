@@ -17,7 +17,8 @@ use Rattle.line.specs.declared.Answer.the-variants.{Passed, Refused}
 use Rattle.module.specs.Start.{unitKnown, tracesFit, freshModule}
 use Rattle.module.specs.Module.{guardOf}
 use Rattle.lockin.specs.Start.{startOf}
-use Rattle.script.specs.Check.{tooLong, linesOf, capacityFits, startBoth, checkOf}
+use Rattle.two_courses.specs.Courses.{startBoth}
+use Rattle.script.specs.Check.{tooLong, linesOf, capacityFits, checkOf}
 use Rattle.script.specs.declared.Verdict.{Verdict}
 use Rattle.script.specs.declared.Verdict.the-variants.{Fine, No}
 use Rattle.demands.proofs.StaysAllowed.{stays-allowed}

@@ -33,8 +33,9 @@ use Rattle.line.specs.declared.Answer.the-variants.{Passed, Refused}
 use Rattle.event.specs.Event.{takesFrequency, withExternal, measuredBy, sampledIn, eventOf}
 use Rattle.event.specs.declared.Event.{Event}
 use Rattle.event.specs.declared.Event.the-variants.{Trigger, Measured}
-use Rattle.script.specs.Check.{resets, measuredHigh, triggeredHigh, kindRefusal, textRefusal, kindAfter, textAfter, textsAnswer, textsAfter}
-use Rattle.script.specs.declared.Both.{Both}
+use Rattle.two_courses.specs.Courses.{resets, measuredHigh, triggeredHigh, kindRefusal, textRefusal, kindAfter, textAfter}
+use Rattle.two_courses.specs.declared.Both.{Both}
+use Rattle.script.specs.Check.{textsAnswer, textsAfter}
 use Rattle.courses.proofs.Alike.{Alike, alike-then, alike-value, alike-allows, alike-after, alike-moving, alike-sampling, after-settings, after-moving, after-unit, crossed-settings, crossed-moving}
 use Rattle.courses.proofs.Gap.{harm-kept}
 use Rattle.courses.proofs.Found.{not-passed, not-done, answer-passed, answer-split}

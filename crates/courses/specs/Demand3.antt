@@ -15,7 +15,8 @@ use Rattle.command.specs.declared.Parsed.{Parsed}
 use Rattle.command.specs.declared.Parsed.the-variants.{Empty, Taken, Refused}
 use Rattle.line.specs.Line.{textsOf}
 use Rattle.line.specs.declared.Answer.the-variants as answer
-use Rattle.script.specs.Check.{resets, tooLong, linesOf, capacityFits, checkOf}
+use Rattle.two_courses.specs.Courses.{resets}
+use Rattle.script.specs.Check.{tooLong, linesOf, capacityFits, checkOf}
 use Rattle.script.specs.declared.Verdict.the-variants.{Fine, No}
 use Rattle.courses.specs.Course.{Course, answers}
 

@@ -34,7 +34,7 @@ use Rattle.module.specs.Start.{unitKnown, tracesFit, freshModule}
 use Rattle.module.specs.Module.{numbered, numbersOf, allowedModule, guardOf}
 use Rattle.lockin.specs.Start.{startOf}
 use Rattle.lockin.specs.Calls.{guarded, wholeLine, lineCall, guardedEvent, eventCall}
-use Rattle.script.specs.Check.{resets, measuredHigh, triggeredHigh, gapOf, kindRefusal, textRefusal, kindAfter, textAfter}
+use Rattle.two_courses.specs.Courses.{resets, measuredHigh, triggeredHigh, gapOf, kindRefusal, textRefusal, kindAfter, textAfter}
 use Rattle.script.specs.Check.{answerAt, textsAnswer, textsAfter, verdictOf, linesVerdict, withoutLast, checkOf}
 use Rattle.examples.specs.Examples.{lineSeen, low16, wordOf, floatSeen, verdictSeen, seenOf, table, Examples}
 

@@ -7,7 +7,7 @@ use Rattle.name.specs.Names.{meaningIn}
 use Rattle.command.specs.Arguments.{arguments}
 use Rattle.command.specs.Parsed.{alone, setWith, parsedOf}
 use Rattle.change.specs.Change.{restoredBy, settingsAfter, storageBy, storageAfter, movingAfter}
-use Rattle.script.specs.Check.{resets, gapOf, kindRefusal, textRefusal, kindAfter, textAfter}
+use Rattle.two_courses.specs.Courses.{resets, gapOf, kindRefusal, textRefusal, kindAfter, textAfter}
 use Rattle.script.specs.Check.{answerAt, textsAnswer, textsAfter, verdictOf, linesVerdict, withoutLast, checkOf}
 use Rattle.examples.specs.Scripts.{AtEveryCapacity}
 

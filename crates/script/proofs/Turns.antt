@@ -14,8 +14,9 @@ use Rattle.command.specs.declared.Parsed.{Parsed}
 use Rattle.line.specs.Line.{semicolon}
 use Rattle.line.specs.declared.Answer.{Answer}
 use Rattle.line.specs.declared.Answer.the-variants as answer
-use Rattle.script.specs.declared.Both.{Both}
-use Rattle.script.specs.Check.{textRefusal, textAfter, answerAt, textsAnswer, textsAfter}
+use Rattle.two_courses.specs.Courses.{textRefusal, textAfter}
+use Rattle.two_courses.specs.declared.Both.{Both}
+use Rattle.script.specs.Check.{answerAt, textsAnswer, textsAfter}
 use Rattle.script.specs.Given.{Sweeps}
 
 -- what is left of the line answers from here what the whole answers from the start

@@ -11,7 +11,8 @@ use native.Mathlib.Numerals.{add-one}
 use borrow.Author.Tests.{lt-ltb, le-ltb, leb-true, leb-false, ltb-true, ltb-false}
 use Rattle.divide.specs.Divide.{span, before, after}
 use Rattle.refusal.specs.declared.Refusal.the-variants.{LongScriptLine, BadTraces}
-use Rattle.script.specs.Check.{capacityFits, checkOf, linesVerdict, linesOf, startBoth}
+use Rattle.two_courses.specs.Courses.{startBoth}
+use Rattle.script.specs.Check.{capacityFits, checkOf, linesVerdict, linesOf}
 use Rattle.script.specs.declared.Verdict.{Verdict}
 use Rattle.script.specs.declared.Verdict.the-variants.{No}
 use Rattle.script_input.specs.Input.{lineFeed, scriptLimit, capacityOf, limitedCheck, saidOf}

@@ -25,7 +25,7 @@ fn measure(course: Course, m: Module, one: &mut [u32], two: &mut [u32]) -> Modul
     if settings::value_of(settings, settings::FMOD) == settings::INTERNAL {
         return m;
     }
-    let frequency = script::highest(settings::value_of(settings, settings::HARM));
+    let frequency = two_courses::highest(settings::value_of(settings, settings::HARM));
     if course.shown {
         operation::show_measured(frequency);
     }

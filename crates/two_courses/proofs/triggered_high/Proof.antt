@@ -1,8 +1,8 @@
--- `script::triggered_high` meets its contract. Assumes nothing.
+-- `two_courses::triggered_high` meets its contract. Assumes nothing.
 use borrow.Author.Needs.{needs}
-use Rattle.script.specs.Check.{triggeredHigh}
-use Rattle.script.proofs.triggered_high.Statement.{statement}
-use Rattle.script.proofs.triggered_high.Tie as tie
+use Rattle.two_courses.specs.Courses.{triggeredHigh}
+use Rattle.two_courses.proofs.triggered_high.Statement.{statement}
+use Rattle.two_courses.proofs.triggered_high.Tie as tie
 
 sampling-of-requires : tie.Need-sampling-of-requires
 sampling-of-requires c κs = search needs

@@ -1,9 +1,9 @@
--- `script::highest` meets its contract. Assumes nothing.
+-- `two_courses::highest` meets its contract. Assumes nothing.
 use mathlib.Core.Path.{sym}
 use native.Mathlib.Nat.{div-zero}
 use borrow.Author.Needs.{needs}
-use Rattle.script.proofs.highest.Statement.{statement}
-use Rattle.script.proofs.highest.Tie as tie
+use Rattle.two_courses.proofs.highest.Statement.{statement}
+use Rattle.two_courses.proofs.highest.Tie as tie
 
 returns : tie.Need-returns
 returns c = rw (c .if1 .taken) (sym (div-zero 1020000000))

@@ -1,7 +1,7 @@
--- `script::start_both` meets its contract. Assumes nothing.
+-- `two_courses::start_both` meets its contract. Assumes nothing.
 use borrow.Author.Needs.{needs}
-use Rattle.script.proofs.start_both.Statement.{statement}
-use Rattle.script.proofs.start_both.Tie as tie
+use Rattle.two_courses.proofs.start_both.Statement.{statement}
+use Rattle.two_courses.proofs.start_both.Tie as tie
 
 start-requires : tie.Need-start-requires
 start-requires c κs = search needs

@@ -1,9 +1,9 @@
--- `script::kind_refusal` meets its contract. Assumes nothing.
+-- `two_courses::kind_refusal` meets its contract. Assumes nothing.
 use mathlib.Core.Path.{sym, _∙_}
 use borrow.Author.Needs.{needs}
-use Rattle.script.specs.Check.{kindRefusal}
-use Rattle.script.proofs.kind_refusal.Statement.{statement}
-use Rattle.script.proofs.kind_refusal.Tie as tie
+use Rattle.two_courses.specs.Courses.{kindRefusal}
+use Rattle.two_courses.proofs.kind_refusal.Statement.{statement}
+use Rattle.two_courses.proofs.kind_refusal.Tie as tie
 
 allows-requires : tie.Need-allows-requires
 allows-requires c κs = search needs

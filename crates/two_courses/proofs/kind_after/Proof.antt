@@ -1,8 +1,8 @@
--- `script::kind_after` meets its contract. Assumes nothing.
+-- `two_courses::kind_after` meets its contract. Assumes nothing.
 use borrow.Author.Needs.{needs}
-use Rattle.script.specs.Check.{kindAfter}
-use Rattle.script.proofs.kind_after.Statement.{statement}
-use Rattle.script.proofs.kind_after.Tie as tie
+use Rattle.two_courses.specs.Courses.{kindAfter}
+use Rattle.two_courses.proofs.kind_after.Statement.{statement}
+use Rattle.two_courses.proofs.kind_after.Tie as tie
 
 begun-after-requires : tie.Need-begun-after-requires
 begun-after-requires c κs = search needs

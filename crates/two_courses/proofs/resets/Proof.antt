@@ -1,8 +1,8 @@
--- `script::resets` meets its contract. Assumes nothing.
+-- `two_courses::resets` meets its contract. Assumes nothing.
 use borrow.Author.Needs.{needs}
-use Rattle.script.specs.Check.{resets}
-use Rattle.script.proofs.resets.Statement.{statement}
-use Rattle.script.proofs.resets.Tie as tie
+use Rattle.two_courses.specs.Courses.{resets}
+use Rattle.two_courses.proofs.resets.Statement.{statement}
+use Rattle.two_courses.proofs.resets.Tie as tie
 
 enum-told : tie.Need-enum-told
 enum-told c = search needs

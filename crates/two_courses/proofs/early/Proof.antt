@@ -1,6 +1,6 @@
--- `script::early` meets its contract. Assumes nothing.
-use Rattle.script.proofs.early.Statement.{statement}
-use Rattle.script.proofs.early.Tie as tie
+-- `two_courses::early` meets its contract. Assumes nothing.
+use Rattle.two_courses.proofs.early.Statement.{statement}
+use Rattle.two_courses.proofs.early.Tie as tie
 
 returns : tie.Need-returns
 returns c = rw (c .if1 .taken)

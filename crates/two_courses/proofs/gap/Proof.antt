@@ -1,8 +1,8 @@
--- `script::gap` meets its contract. Assumes nothing.
+-- `two_courses::gap` meets its contract. Assumes nothing.
 use borrow.Author.Needs.{needs}
-use Rattle.script.specs.Check.{gapOf}
-use Rattle.script.proofs.gap.Statement.{statement}
-use Rattle.script.proofs.gap.Tie as tie
+use Rattle.two_courses.specs.Courses.{gapOf}
+use Rattle.two_courses.proofs.gap.Statement.{statement}
+use Rattle.two_courses.proofs.gap.Tie as tie
 
 measured-high-requires : tie.Need-measured-high-requires
 measured-high-requires c κs = search needs

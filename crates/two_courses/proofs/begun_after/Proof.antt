@@ -1,7 +1,7 @@
--- `script::begun_after` meets its contract. Assumes nothing.
+-- `two_courses::begun_after` meets its contract. Assumes nothing.
 use borrow.Author.Needs.{needs}
-use Rattle.script.proofs.begun_after.Statement.{statement}
-use Rattle.script.proofs.begun_after.Tie as tie
+use Rattle.two_courses.proofs.begun_after.Statement.{statement}
+use Rattle.two_courses.proofs.begun_after.Tie as tie
 
 returns : tie.Need-returns
 returns c = rw (c .if1 .taken)

@@ -1,8 +1,8 @@
--- `script::text_refusal` meets its contract. Assumes nothing.
+-- `two_courses::text_refusal` meets its contract. Assumes nothing.
 use borrow.Author.Needs.{needs}
-use Rattle.script.specs.Check.{textRefusal}
-use Rattle.script.proofs.text_refusal.Statement.{statement}
-use Rattle.script.proofs.text_refusal.Tie as tie
+use Rattle.two_courses.specs.Courses.{textRefusal}
+use Rattle.two_courses.proofs.text_refusal.Statement.{statement}
+use Rattle.two_courses.proofs.text_refusal.Tie as tie
 
 enum-told : tie.Need-enum-told
 enum-told c = search needs

@@ -1,10 +1,10 @@
--- `script::measured_high` meets its contract. Assumes nothing.
+-- `two_courses::measured_high` meets its contract. Assumes nothing.
 use borrow.Author.Tests.{eq-eqb, ne-eqb}
 use mathlib.Core.Path.{sym}
 use borrow.Author.Needs.{needs}
-use Rattle.script.specs.Check.{measuredHigh}
-use Rattle.script.proofs.measured_high.Statement.{statement}
-use Rattle.script.proofs.measured_high.Tie as tie
+use Rattle.two_courses.specs.Courses.{measuredHigh}
+use Rattle.two_courses.proofs.measured_high.Statement.{statement}
+use Rattle.two_courses.proofs.measured_high.Tie as tie
 
 value-of-requires : tie.Need-value-of-requires
 value-of-requires c κs = search needs

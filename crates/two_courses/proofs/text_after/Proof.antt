@@ -1,8 +1,8 @@
--- `script::text_after` meets its contract. Assumes nothing.
+-- `two_courses::text_after` meets its contract. Assumes nothing.
 use borrow.Author.Needs.{needs}
-use Rattle.script.specs.Check.{textAfter}
-use Rattle.script.proofs.text_after.Statement.{statement}
-use Rattle.script.proofs.text_after.Tie as tie
+use Rattle.two_courses.specs.Courses.{textAfter}
+use Rattle.two_courses.proofs.text_after.Statement.{statement}
+use Rattle.two_courses.proofs.text_after.Tie as tie
 
 enum-told : tie.Need-enum-told
 enum-told c = search needs

@@ -1,0 +1,175 @@
+// The two courses that the check follows: what can happen before a line, which commands are refused, and what is carried past the others.
+ghost use mathlib.Core.Path.{_≡_};
+ghost use Prim.Native.Nat.{_/_};
+ghost use Rattle.settings.specs.Frequency.{hertz};
+ghost use Rattle.two_courses.specs.Courses.{resets, measuredHigh, triggeredHigh, gapOf, kindRefusal, textRefusal, kindAfter, textAfter, startBoth};
+ghost use Rattle.two_courses.specs.Given.{earlyOf, begunAfter};
+use command::Kind;
+use command::Parsed;
+use refusal::Outcome;
+use refusal::Refusal;
+use settings::Settings;
+use state::Moving;
+
+// What the check carries from command to command: whether *RST has begun the script, the settings, which every course shares, and the moving parts of
+// two courses: low has no events, high has at each gap the highest frequency that can be measured and then a trigger.
+pub struct Both {
+    pub begun: bool,
+    pub settings: Settings,
+    pub low: Moving,
+    pub high: Moving,
+}
+
+fn resets(kind: Kind) -> bool
+    ensures { λ r. ⌜ r ≡ resets kind ⌝ }
+{
+    match kind {
+        Kind::Set(_) => false,
+        Kind::Query(_) => false,
+        Kind::Act(a) => change::is_reset(a),
+    }
+}
+
+// The highest frequency that is taken with a harmonic.
+pub fn highest(harmonic: u32) -> u32
+    ensures { λ r. ⌜ r ≡ hertz 102000 / harmonic ⌝ }
+{
+    if harmonic == 0 {
+        return 0;
+    }
+    settings::FREQUENCY_HIGH / harmonic
+}
+
+// The moving part once the highest frequency was measured, where one is measured at all.
+fn measured_high(s: Settings, m: Moving) -> Moving
+    ensures { λ r. ⌜ r ≡ measuredHigh s m ⌝ }
+{
+    if settings::value_of(s, settings::FMOD) == settings::INTERNAL {
+        return m;
+    }
+    let storage = m.storage;
+    Moving {
+        external: highest(settings::value_of(s, settings::HARM)),
+        storage,
+    }
+}
+
+fn triggered_high(capacity: u32, s: Settings, m: Moving) -> Moving
+    ensures { λ r. ⌜ r ≡ triggeredHigh capacity s m ⌝ }
+{
+    let p = storage::triggered(m.storage, capacity, state::sampling_of(s));
+    let storage = p.storage;
+    Moving {
+        external: m.external,
+        storage,
+    }
+}
+
+// What can happen before a line.
+pub fn gap(capacity: u32, b: Both) -> Both
+    ensures { λ r. ⌜ r ≡ gapOf capacity b ⌝ }
+{
+    let settings = b.settings;
+    let low = b.low;
+    let high = b.high;
+    Both {
+        begun: b.begun,
+        settings,
+        low,
+        high: triggered_high(capacity, settings, measured_high(settings, high)),
+    }
+}
+
+fn kind_refusal(kind: Kind, b: Both) -> Outcome
+    ensures { λ r. ⌜ r ≡ kindRefusal kind b ⌝ }
+{
+    let begun = b.begun;
+    if begun {
+        let low = b.low;
+        let high = b.high;
+        if allow::allows(b.settings, low, kind) {
+            if allow::allows(b.settings, high, kind) {
+                return Outcome::Done;
+            }
+            return Outcome::Refused(Refusal::NotAllowed);
+        }
+        return Outcome::Refused(Refusal::NotAllowed);
+    }
+    if resets(kind) {
+        return Outcome::Done;
+    }
+    Outcome::Refused(Refusal::NoReset)
+}
+
+// Refusal 7 as long as no *RST has begun the script.
+fn early(begun: bool, refusal: Refusal) -> Outcome
+    ensures { λ r. ⌜ r ≡ earlyOf begun refusal ⌝ }
+{
+    if begun {
+        return Outcome::Refused(refusal);
+    }
+    Outcome::Refused(Refusal::NoReset)
+}
+
+// The refusal of a command that is not empty: 7 before *RST, 1 and 2 by its text, 3 where one of the two courses refuses it.
+pub fn text_refusal(p: Parsed, b: Both) -> Outcome
+    ensures { λ r. ⌜ r ≡ textRefusal p b ⌝ }
+{
+    match p {
+        Parsed::Empty => Outcome::Done,
+        Parsed::Refused(refusal) => early(b.begun, refusal),
+        Parsed::Taken(c) => {
+            let kind = c.kind;
+            kind_refusal(kind, b)
+        }
+    }
+}
+
+fn begun_after(begun: bool, kind: Kind) -> bool
+    ensures { λ r. ⌜ r ≡ begunAfter begun kind ⌝ }
+{
+    if begun {
+        return true;
+    }
+    resets(kind)
+}
+
+fn kind_after(capacity: u32, kind: Kind, b: Both) -> Both
+    ensures { λ r. ⌜ r ≡ kindAfter capacity kind b ⌝ }
+{
+    let settings = b.settings;
+    let low = b.low;
+    let high = b.high;
+    Both {
+        begun: begun_after(b.begun, kind),
+        settings: change::settings_after(settings, kind),
+        low: change::moving_after(settings, low, capacity, kind),
+        high: change::moving_after(settings, high, capacity, kind),
+    }
+}
+
+// What is carried past a command that is not refused.
+pub fn text_after(capacity: u32, p: Parsed, b: Both) -> Both
+    ensures { λ r. ⌜ r ≡ textAfter capacity p b ⌝ }
+{
+    match p {
+        Parsed::Empty => b,
+        Parsed::Refused(_) => b,
+        Parsed::Taken(c) => {
+            let kind = c.kind;
+            kind_after(capacity, kind, b)
+        }
+    }
+}
+
+// What is carried into a script.
+pub fn start_both() -> Both
+    ensures { λ r. ⌜ r ≡ startBoth ⌝ }
+{
+    Both {
+        begun: false,
+        settings: Settings::start(),
+        low: Moving::start(),
+        high: Moving::start(),
+    }
+}
