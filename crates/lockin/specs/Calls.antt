@@ -5,7 +5,6 @@ use mathlib.Core.Path.{_≡_}
 use mathlib.Core.List.{List, []}
 use lib.Dec.{leb}
 use lib.ListN.{length}
-use Rattle.refusal.specs.Meaning.{meaningOf}
 use Rattle.refusal.specs.declared.Refusal.{Refusal}
 use Rattle.refusal.specs.declared.Refusal.the-variants.{LongLine, BadState}
 use Rattle.refusal.specs.declared.Outcome.{Outcome}
@@ -26,8 +25,6 @@ use Rattle.module.specs.declared.Told.{Told}
 use Rattle.module.specs.declared.Called.{Called}
 use Rattle.lockin.specs.declared.Taken.{Taken}
 use Rattle.lockin.specs.declared.Polled.{Polled}
-use Rattle.lockin.specs.declared.PollNumbers.{PollNumbers}
-use Rattle.lockin.specs.declared.Polled.the-variants as polled
 
 -- a call with a line or a byte: the module and both traces after it, the reply bytes, and what is told
 pub record Call : Type 0 where
@@ -118,10 +115,9 @@ pub record Happens (c : EventCall) (r : Taken) (one two : List ℕ) : Type 0 whe
   pub first : one ≡ c .one
   pub second : two ≡ c .two
 
+-- a serial poll: the status byte between lines, told as 0 under 11, "a state outside the ranges, steps and limits above"
 unfoldable pub pollOf : Module → Polled
-pollOf m = cond (allowedModule m) (polled.Status (statusBetween (m .state))) (polled.Refused BadState)
-
--- the paper's numbers for a poll: 0 and the status byte, or the refusal's number
-unfoldable pub pollNumbersOf : Polled → PollNumbers
-pollNumbersOf (polled.Status b) = record { refusal = 0; status = b }
-pollNumbersOf (polled.Refused r) = record { refusal = meaningOf r .number; status = 0 }
+pollOf m =
+    cond (allowedModule m)
+    (record { status = statusBetween (m .state); outcome = outcome.Done })
+    (record { status = 0; outcome = outcome.Refused BadState })

@@ -3,7 +3,7 @@ ghost use mathlib.Core.Path.{_≡_};
 ghost use lib.ListN.{length};
 ghost use Rattle.event.specs.Event.{eventOf};
 ghost use Rattle.lockin.specs.Start.{startOf};
-ghost use Rattle.lockin.specs.Calls.{wholeLine, lineCall, endedLine, fedCall, fedByte, byteCall, Answers, occurred, eventCall, Happens, pollOf, pollNumbersOf};
+ghost use Rattle.lockin.specs.Calls.{wholeLine, lineCall, endedLine, fedCall, fedByte, byteCall, Answers, occurred, eventCall, Happens, pollOf};
 ghost use Rattle.lockin.specs.Given.{lengthOf, ranCalled};
 use event::Event;
 use line::Answer;
@@ -26,16 +26,10 @@ pub struct Taken {
     pub outcome: Outcome,
 }
 
-// A serial poll: the status byte, or the refusal of the state.
-pub enum Polled {
-    Status(u8),
-    Refused(Refusal),
-}
-
-// The same in numbers: refusal 0 and the status byte, or the refusal and 0.
-pub struct PollNumbers {
-    pub refusal: u8,
+// A serial poll: the status byte, 0 where the state was refused.
+pub struct Polled {
     pub status: u8,
+    pub outcome: Outcome,
 }
 
 // A fresh module over two traces, which are not written. Port 0 is RS232, 1 is GPIB.
@@ -224,23 +218,13 @@ pub fn poll(m: Module) -> Polled
 {
     if module::allowed(m) {
         let state = m.state;
-        return Polled::Status(module::status_between(state));
+        return Polled {
+            status: module::status_between(state),
+            outcome: Outcome::Done,
+        };
     }
-    Polled::Refused(Refusal::BadState)
-}
-
-// The numbers of a poll.
-pub fn poll_numbers_of(polled: Polled) -> PollNumbers
-    ensures { λ r. ⌜ r ≡ pollNumbersOf polled ⌝ }
-{
-    match polled {
-        Polled::Status(status) => PollNumbers { refusal: 0, status },
-        Polled::Refused(refusal) => {
-            let meaning = refusal::meaning_of(refusal);
-            PollNumbers {
-                refusal: meaning.number,
-                status: 0,
-            }
-        }
+    Polled {
+        status: 0,
+        outcome: Outcome::Refused(Refusal::BadState),
     }
 }

@@ -39,10 +39,11 @@ fn show(m: Module, one: &[u32], two: &[u32]) -> Module {
 
 // The answer to `poll`.
 fn tell_poll(m: Module) {
-    let told = lockin::poll_numbers_of(lockin::poll(m));
+    let polled = lockin::poll(m);
+    let outcome = polled.outcome;
     let mut out = io::buffer();
-    let refusal = terminal::put_named(&mut out, 0, b"P ", told.refusal as u32);
-    let status = terminal::put_named(&mut out, refusal, b" ", told.status as u32);
+    let refusal = terminal::put_named(&mut out, 0, b"P ", refusal::number_of(outcome) as u32);
+    let status = terminal::put_named(&mut out, refusal, b" ", polled.status as u32);
     terminal::end_line(&mut out, status);
 }
 
