@@ -1,5 +1,5 @@
 // The state of a module and its traces as text, by docs/ops-protocol.md: `name=value`, divided by spaces.
-use lockin::Module;
+use module::Module;
 use queue::Queue;
 use settings::Settings;
 use state::Pair;
