@@ -1,8 +1,9 @@
-// A line handed over whole, or a byte: the module is called, its answer written, and the module after it given.
+// The calls on a module: each writes its answer, and gives the module after it.
 mod begin;
 
 pub use begin::refused;
 pub use begin::start;
+use event::Event;
 use lockin::Called;
 use lockin::Module;
 use lockin::Numbers;
@@ -95,4 +96,36 @@ pub fn take_within(
     }
     let mut reply = operations::reply_buffer();
     perform(m, call, text, one, two, &mut reply[0..room])
+}
+
+// An event.
+pub fn happen(m: Module, e: Event, one: &mut [u32], two: &mut [u32]) -> Module {
+    let taken = lockin::take_event(m, e, one, two);
+    let outcome = taken.outcome;
+    tell_number(b"A ", refusal::number_of(outcome));
+    taken.after
+}
+
+// A word for a slot of trace 1 or 2, where it is there.
+pub fn poke(trace: u32, slot: usize, word: u32, one: &mut [u32], two: &mut [u32]) {
+    terminal::flush(b"K\n", 2);
+    if trace == 1 {
+        if slot < one.len() {
+            one[slot] = word;
+        }
+        return;
+    }
+    if slot < two.len() {
+        two[slot] = word;
+    }
+}
+
+// The answer to `poll`.
+pub fn tell_poll(m: Module) {
+    let polled = lockin::poll(m);
+    let outcome = polled.outcome;
+    let mut out = io::buffer();
+    let refusal = put_named(&mut out, 0, b"P ", refusal::number_of(outcome) as u32);
+    let status = put_named(&mut out, refusal, b" ", polled.status as u32);
+    terminal::end_line(&mut out, status);
 }

@@ -161,9 +161,16 @@ fn put_state(out: &mut [u8], at: usize, s: State) -> usize {
 }
 
 // The whole text behind the bytes that wait in a buffer, as `terminal` puts it.
-pub fn put(out: &mut [u8], at: usize, m: Module, one: &[u32], two: &[u32]) -> usize {
+fn put(out: &mut [u8], at: usize, m: Module, one: &[u32], two: &[u32]) -> usize {
     let state = put_state(out, at, m.state);
     let queue = put_queue(out, state, m.queue);
     let first = put_trace(out, queue, b" t1=", one);
     put_trace(out, first, b" t2=", two)
+}
+
+// Writes the text as a line.
+pub fn tell(m: Module, one: &[u32], two: &[u32]) {
+    let mut out = io::buffer();
+    let end = put(&mut out, 0, m, one, two);
+    terminal::end_line(&mut out, end);
 }

@@ -1,5 +1,7 @@
 // The operations of docs/ops-protocol.md: what the fields of each ask for.
+ghost use mathlib.Core.Path.{_≡_};
 ghost use Prim.Native.Nat.{_<_};
+ghost use lib.ListN.{length};
 use event::Event;
 use terminal::Decoded;
 use terminal::Field;
@@ -40,7 +42,9 @@ const OPERATIONS: usize = 12;
 pub const LINE_LIMIT: usize = 131072;
 
 // Room for a line, and for a trace.
-pub fn line_buffer() -> [u8; LINE_LIMIT] {
+pub fn line_buffer() -> [u8; LINE_LIMIT]
+    ensures { λ r. ⌜ 131072 ≡ length r ⌝ }
+{
     [0u8; LINE_LIMIT]
 }
 
@@ -53,7 +57,9 @@ pub fn small_reply_buffer() -> [u8; SMALL_ROOM] {
     [UNTOUCHED; SMALL_ROOM]
 }
 
-pub fn trace_buffer() -> [u32; SLOTS as usize] {
+pub fn trace_buffer() -> [u32; SLOTS as usize]
+    ensures { λ r. ⌜ 16384 ≡ length r ⌝ }
+{
     [0u32; SLOTS as usize]
 }
 

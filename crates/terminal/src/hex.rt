@@ -82,15 +82,11 @@ pub fn put_hex(out: &mut [u8], at: usize, value: u64, least: usize) -> usize {
     put_all(out, at, &digits[0..n])
 }
 
-fn put_pair(out: &mut [u8], at: usize, b: u8) -> usize {
-    put_hex(out, at, b as u64, BYTE_DIGITS)
-}
-
 fn put_pairs(out: &mut [u8], at: usize, bytes: &[u8]) -> usize {
     let mut end = at;
     let mut i = 0;
     while i < bytes.len() {
-        end = put_pair(out, end, bytes[i]);
+        end = put_hex(out, end, bytes[i] as u64, BYTE_DIGITS);
         i += 1;
     }
     end
