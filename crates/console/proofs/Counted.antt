@@ -14,8 +14,8 @@ use Rattle.refusal.specs.declared.Outcome.the-variants as outcome
 use Rattle.clean.specs.Clean.{cleaned}
 use Rattle.command.specs.Parsed.{parsedOf}
 use Rattle.line.specs.Line.{semicolon, textsOf}
-use Rattle.line.specs.declared.Answer.{Answer}
-use Rattle.line.specs.declared.Answer.the-variants.{Passed, Refused}
+use Rattle.refusal.specs.declared.Answer.{Answer}
+use Rattle.refusal.specs.declared.Answer.the-variants.{Passed, Refused}
 use Rattle.line.proofs.Cleaned.{cleaned-length}
 use Rattle.two_courses.specs.Courses.{gapOf, textRefusal, textAfter, startBoth}
 use Rattle.two_courses.specs.declared.Both.{Both}

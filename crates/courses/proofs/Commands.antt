@@ -21,8 +21,9 @@ use Rattle.change.specs.Change.{restoredBy, settingsAfter, storageBy, storageAf
 use Rattle.reply.specs.Reply.{fitsIn}
 use Rattle.answer.specs.Reply.{replyOf}
 use Rattle.line.specs.Perform.{Effect, refusedBy, doneBy, performed, commandOf}
-use Rattle.line.specs.Line.{Line, firstOf, isNoRoom, drops, waits, afterOf, stepOf, runAll}
-use Rattle.line.specs.declared.Answer.the-variants.{Passed, Refused}
+use Rattle.refusal.specs.Answer.{firstOf, isNoRoom, drops}
+use Rattle.line.specs.Line.{Line, waits, afterOf, stepOf, runAll}
+use Rattle.refusal.specs.declared.Answer.the-variants.{Passed, Refused}
 use Rattle.two_courses.specs.Courses.{resets, kindRefusal, textRefusal, kindAfter, textAfter}
 use Rattle.two_courses.specs.declared.Both.{Both}
 use Rattle.script.specs.Check.{textsAnswer, textsAfter}

@@ -9,8 +9,8 @@ use Rattle.refusal.specs.declared.Refusal.the-variants.{NoReset, LongScriptLine
 use Rattle.refusal.specs.declared.Outcome.{Outcome}
 use Rattle.refusal.specs.declared.Outcome.the-variants as outcome
 use Rattle.line.specs.Line.{textsOf}
-use Rattle.line.specs.declared.Answer.{Answer}
-use Rattle.line.specs.declared.Answer.the-variants.{Passed, Refused}
+use Rattle.refusal.specs.declared.Answer.{Answer}
+use Rattle.refusal.specs.declared.Answer.the-variants.{Passed, Refused}
 use Rattle.two_courses.specs.Courses.{gapOf}
 use Rattle.two_courses.specs.declared.Both.{Both}
 use Rattle.script.specs.Check.{answerAt, textsAnswer, textsAfter, tooLong, verdictOf, linesVerdict}

@@ -16,7 +16,7 @@ use Rattle.command.specs.declared.Parsed.{Parsed}
 use Rattle.command.specs.declared.Parsed.the-variants as parsed
 use Rattle.allow.specs.Allows.{allowsOf}
 use Rattle.line.specs.Line.{textsOf}
-use Rattle.line.specs.declared.Answer.the-variants.{Passed, Refused}
+use Rattle.refusal.specs.declared.Answer.the-variants.{Passed, Refused}
 use Rattle.two_courses.specs.Courses.{resets, gapOf, kindRefusal, textRefusal, kindAfter, textAfter}
 use Rattle.two_courses.specs.declared.Both.{Both}
 use Rattle.script.specs.Check.{textsAnswer, textsAfter, tooLong}

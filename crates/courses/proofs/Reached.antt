@@ -14,7 +14,7 @@ use Rattle.event.specs.Event.{eventOf}
 use Rattle.event.specs.declared.Event.the-variants.{Trigger, Measured}
 use Rattle.event.proofs.Crossed.{sound}
 use Rattle.line.specs.Line.{startLine, textsOf, lineOf}
-use Rattle.line.specs.declared.Answer.the-variants.{Passed, Refused}
+use Rattle.refusal.specs.declared.Answer.the-variants.{Passed, Refused}
 use Rattle.module.specs.Module.{allowedModule, guardOf}
 use Rattle.two_courses.specs.Courses.{gapOf, measuredHigh}
 use Rattle.two_courses.specs.declared.Both.{Both}

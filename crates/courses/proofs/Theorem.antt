@@ -13,7 +13,7 @@ use Rattle.refusal.specs.declared.Refusal.the-variants.{Malformed, OutOfRange, 
 use Rattle.refusal.specs.declared.Outcome.the-variants as outcome
 use Rattle.command.specs.declared.Parsed.{Parsed}
 use Rattle.state.specs.State.{startState}
-use Rattle.line.specs.declared.Answer.the-variants.{Passed, Refused}
+use Rattle.refusal.specs.declared.Answer.the-variants.{Passed, Refused}
 use Rattle.module.specs.Start.{unitKnown, tracesFit, freshModule}
 use Rattle.module.specs.Module.{guardOf}
 use Rattle.lockin.specs.Start.{startOf}

@@ -28,8 +28,9 @@ use Rattle.state.specs.declared.State.{State}
 use Rattle.allow.specs.Allows.{allowsOf}
 use Rattle.change.specs.Change.{movingAfter, stateAfter}
 use Rattle.line.specs.Perform.{doneBy, performed, commandOf}
-use Rattle.line.specs.Line.{Line, drops, waits, afterOf, stepOf, runAll}
-use Rattle.line.specs.declared.Answer.the-variants.{Passed, Refused}
+use Rattle.refusal.specs.Answer.{drops}
+use Rattle.line.specs.Line.{Line, waits, afterOf, stepOf, runAll}
+use Rattle.refusal.specs.declared.Answer.the-variants.{Passed, Refused}
 use Rattle.event.specs.Event.{takesFrequency, withExternal, measuredBy, sampledIn, eventOf}
 use Rattle.event.specs.declared.Event.{Event}
 use Rattle.event.specs.declared.Event.the-variants.{Trigger, Measured}

@@ -7,8 +7,8 @@ use lib.Dec.{leb}
 use lib.ListN.{length}
 use Rattle.event.specs.declared.Event.{Event}
 use Rattle.line.specs.Line.{lineOf}
-use Rattle.line.specs.declared.Answer.{Answer}
-use Rattle.line.specs.declared.Answer.the-variants.{Passed}
+use Rattle.refusal.specs.declared.Answer.{Answer}
+use Rattle.refusal.specs.declared.Answer.the-variants.{Passed}
 use Rattle.module.specs.Module.{allowedModule}
 use Rattle.module.specs.declared.Module.{Module}
 use Rattle.lockin.specs.Calls.{Call, EventCall, lineCall, eventCall}

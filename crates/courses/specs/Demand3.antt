@@ -14,7 +14,7 @@ use Rattle.command.specs.Parsed.{parsedOf}
 use Rattle.command.specs.declared.Parsed.{Parsed}
 use Rattle.command.specs.declared.Parsed.the-variants.{Empty, Taken, Refused}
 use Rattle.line.specs.Line.{textsOf}
-use Rattle.line.specs.declared.Answer.the-variants as answer
+use Rattle.refusal.specs.declared.Answer.the-variants as answer
 use Rattle.two_courses.specs.Courses.{resets}
 use Rattle.script.specs.Check.{tooLong, linesOf, capacityFits, checkOf}
 use Rattle.script.specs.declared.Verdict.the-variants.{Fine, No}

@@ -18,9 +18,10 @@ use Rattle.status.proofs.Bits.{bit-lt, bit-or, power-here, power-other}
 use Rattle.state.specs.State.{withRegisters, markedBy}
 use Rattle.state.specs.declared.State.{State}
 use Rattle.line.specs.Perform.{Effect, refusedBy, doneBy, commandOf}
-use Rattle.line.specs.Line.{Line, isNoRoom, drops, waits, firstOf, afterOf, stepOf, runAll, startLine, textsOf, lineOf}
-use Rattle.line.specs.declared.Answer.{Answer}
-use Rattle.line.specs.declared.Answer.the-variants as answer
+use Rattle.refusal.specs.Answer.{isNoRoom, drops, firstOf}
+use Rattle.line.specs.Line.{Line, waits, afterOf, stepOf, runAll, startLine, textsOf, lineOf}
+use Rattle.refusal.specs.declared.Answer.{Answer}
+use Rattle.refusal.specs.declared.Answer.the-variants as answer
 use Rattle.event.specs.Event.{legalPair, withLatest, done, refused, pairTaken, bitsRaised, sampledIn, eventOf}
 use Rattle.event.specs.declared.Event.{Event}
 use Rattle.event.specs.declared.Event.the-variants.{Latest, Tick, Trigger, Measured, Raised}

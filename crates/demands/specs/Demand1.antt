@@ -13,9 +13,10 @@ use Rattle.command.specs.Parsed.{parsedOf}
 use Rattle.state.specs.State.{markedBy}
 use Rattle.state.specs.declared.State.{State}
 use Rattle.line.specs.Perform.{Effect, commandOf}
-use Rattle.line.specs.Line.{Line, isNoRoom, waits, firstOf, stepOf, runAll}
+use Rattle.refusal.specs.Answer.{isNoRoom, firstOf}
+use Rattle.line.specs.Line.{Line, waits, stepOf, runAll}
 use Rattle.event.specs.declared.Event.{Event}
-use Rattle.line.specs.declared.Answer.the-variants as answer
+use Rattle.refusal.specs.declared.Answer.the-variants as answer
 use Rattle.queue.specs.Queue.{emptiedOf, droppingIs, isMarked}
 use Rattle.queue.specs.declared.Queue.{Queue}
 use Rattle.module.specs.declared.Module.{Module}

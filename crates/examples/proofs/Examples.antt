@@ -26,6 +26,7 @@ use Rattle.state.specs.Allowed.{keepsUnit, keepsLatest, keepsParts, allowedStat
 use Rattle.allow.specs.Allows.{keepsLimit, valueAllowed, setAllowed, queryAllowed, allowsOf}
 use Rattle.change.specs.Change.{setIn, restoredBy, settingsAfter, storageBy, storageAfter, movingAfter, changedBy, stateAfter}
 use Rattle.answer.specs.Reply.{valueNow, valueText, textOf, endedText, traceReply, queryReply, replyOf}
+use Rattle.refusal.specs.Answer.{firstOf, isNoRoom, drops}
 use Rattle.line.specs.Perform.{doneBy, performed, commandOf}
 use Rattle.line.specs.Line as line
 use Rattle.event.specs.Event.{withLatest, legalPair, pairTaken, eventOf}
@@ -53,7 +54,7 @@ unfolding span onHead parts allDigits begins unsigned isMantissa isNumber decima
     keepsLimit valueAllowed setAllowed queryAllowed allowsOf
     setIn restoredBy settingsAfter storageBy storageAfter movingAfter changedBy stateAfter
     valueNow valueText textOf endedText traceReply queryReply replyOf
-    doneBy performed commandOf line.firstOf line.isNoRoom line.drops line.afterOf line.stepOf line.runAll line.lineOf
+    doneBy performed commandOf firstOf isNoRoom drops line.afterOf line.stepOf line.runAll line.lineOf
     withLatest legalPair pairTaken eventOf queue.noEnd queue.keepsOf
     unitKnown tracesFit freshModule startOf
     numbered numbersOf allowedModule guardOf guarded wholeLine lineCall guardedEvent eventCall

@@ -1,22 +1,19 @@
 -- What a line does, command by command: document 01, "Lines and commands" and "Refusal numbers".
 use Prim.Native.Nat.{ℕ, _+_, _-_}
-use mathlib.Core.Bool.{Bool, true, false, cond}
+use mathlib.Core.Bool.{Bool, false, cond}
 use mathlib.Core.Path.{_≡_}
 use mathlib.Core.List.{List, [], _∷_, _++_}
 use lib.Dec.{ltb}
 use lib.ListN.{length, take}
 use Rattle.divide.specs.Divide.{parts}
 use Rattle.clean.specs.Clean.{cleaned}
-use Rattle.refusal.specs.declared.Refusal.{Refusal}
-use Rattle.refusal.specs.declared.Refusal.the-variants.{Malformed, OutOfRange, NotAllowed, NoRoom, LongLine, BadEvent, NoReset, LongScriptLine, BadTraces, BadStart, BadState}
-use Rattle.refusal.specs.declared.Outcome.{Outcome}
-use Rattle.refusal.specs.declared.Outcome.the-variants as outcome
+use Rattle.refusal.specs.Answer.{firstOf, drops}
 use Rattle.command.specs.Parsed.{parsedOf}
 use Rattle.state.specs.declared.State.{State}
 use Rattle.reply.specs.Reply.{over}
 use Rattle.line.specs.Perform.{Effect, commandOf}
-use Rattle.line.specs.declared.Answer.{Answer}
-use Rattle.line.specs.declared.Answer.the-variants.{Passed, Refused}
+use Rattle.refusal.specs.declared.Answer.{Answer}
+use Rattle.refusal.specs.declared.Answer.the-variants.{Passed}
 use Rattle.line.specs.declared.Performed.{Performed}
 use Rattle.line.specs.declared.Progress.{Progress}
 
@@ -29,30 +26,6 @@ pub record Line : Type 0 where
   pub answer : Answer
   pub count : ℕ
   pub dropped : Bool
-
--- "A line's answer is its first refusal and place .., or 0."
-unfoldable pub firstOf : Answer → Outcome → ℕ → Answer
-firstOf Passed outcome.Done place = Passed
-firstOf Passed (outcome.Refused r) place = Refused r place
-firstOf (Refused r earlier) told place = Refused r earlier
-
--- "A refused command does not stop the rest of the line, save under 4"
-unfoldable pub isNoRoom : Refusal → Bool
-isNoRoom Malformed = false
-isNoRoom OutOfRange = false
-isNoRoom NotAllowed = false
-isNoRoom NoRoom = true
-isNoRoom LongLine = false
-isNoRoom BadEvent = false
-isNoRoom NoReset = false
-isNoRoom LongScriptLine = false
-isNoRoom BadTraces = false
-isNoRoom BadStart = false
-isNoRoom BadState = false
-
-unfoldable pub drops : Outcome → Bool
-drops outcome.Done = false
-drops (outcome.Refused r) = isNoRoom r
 
 -- "4 reply bytes of this line already waiting"
 abbrev pub waits : List ℕ → Bool

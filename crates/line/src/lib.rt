@@ -5,9 +5,10 @@ ghost use lib.ListN.{length};
 ghost use Rattle.divide.specs.Divide.{parts};
 ghost use Rattle.command.specs.Parsed.{parsedOf};
 ghost use Rattle.line.specs.Perform.{refusedWith, performed, commandOf, Does};
-ghost use Rattle.line.specs.Line.{firstOf, isNoRoom, drops, progressAfter, stepOf, runAll, startLine, semicolon, lineOf, lineAt, Runs};
+ghost use Rattle.line.specs.Line.{progressAfter, stepOf, runAll, startLine, semicolon, lineOf, lineAt, Runs};
 use command::Command;
 use command::Parsed;
+use refusal::Answer;
 use refusal::Outcome;
 use refusal::Refusal;
 use state::State;
@@ -17,12 +18,6 @@ pub struct Performed {
     pub state: State,
     pub written: usize,
     pub outcome: Outcome,
-}
-
-// A line's answer: nothing refused, or the first refusal and the place of its command, from 1.
-pub enum Answer {
-    Passed,
-    Refused(Refusal, u32),
 }
 
 // A line on its way: the state, the reply bytes written, the answer so far, how many commands there were, and whether the rest is dropped.
@@ -102,47 +97,6 @@ fn take_command(
     }
 }
 
-// The answer once a command at a place has come to an outcome.
-fn first_of(answer: Answer, outcome: Outcome, place: u32) -> Answer
-    ensures { λ r. ⌜ r ≡ firstOf answer outcome place ⌝ }
-{
-    match answer {
-        Answer::Refused(_, _) => answer,
-        Answer::Passed => match outcome {
-            Outcome::Done => Answer::Passed,
-            Outcome::Refused(refusal) => Answer::Refused(refusal, place),
-        },
-    }
-}
-
-fn is_no_room(refusal: Refusal) -> bool
-    ensures { λ r. ⌜ r ≡ isNoRoom refusal ⌝ }
-{
-    match refusal {
-        Refusal::Malformed => false,
-        Refusal::OutOfRange => false,
-        Refusal::NotAllowed => false,
-        Refusal::NoRoom => true,
-        Refusal::LongLine => false,
-        Refusal::BadEvent => false,
-        Refusal::NoReset => false,
-        Refusal::LongScriptLine => false,
-        Refusal::BadTraces => false,
-        Refusal::BadStart => false,
-        Refusal::BadState => false,
-    }
-}
-
-// Whether an outcome drops the rest of the line.
-fn drops(outcome: Outcome) -> bool
-    ensures { λ r. ⌜ r ≡ drops outcome ⌝ }
-{
-    match outcome {
-        Outcome::Done => false,
-        Outcome::Refused(refusal) => is_no_room(refusal),
-    }
-}
-
 // The line after one more command.
 fn after(p: Progress, d: Performed) -> Progress
     requires { ⌜ (p .at + d .written < 9223372036854775808) × (p .count < 1000) ⌝ }
@@ -155,9 +109,9 @@ fn after(p: Progress, d: Performed) -> Progress
     Progress {
         state,
         at: p.at + d.written,
-        answer: first_of(answer, outcome, count),
+        answer: refusal::first_of(answer, outcome, count),
         count,
-        dropped: drops(outcome),
+        dropped: refusal::drops(outcome),
     }
 }
 

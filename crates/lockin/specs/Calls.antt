@@ -16,7 +16,7 @@ use Rattle.queue.specs.declared.Ended.{Ended}
 use Rattle.queue.specs.declared.Ended.the-variants as ended
 use Rattle.reply.specs.Reply.{over}
 use Rattle.line.specs.Line.{Line, lineOf}
-use Rattle.line.specs.declared.Answer.the-variants as answer
+use Rattle.refusal.specs.declared.Answer.the-variants as answer
 use Rattle.event.specs.Event.{Occurred, eventOf}
 use Rattle.event.specs.declared.Event.{Event}
 use Rattle.module.specs.Module.{allowedModule, guardOf, toldOf, statusBetween}

@@ -11,8 +11,8 @@ use Rattle.state.specs.declared.State.{State}
 use Rattle.status.specs.Status.{statusByte}
 use Rattle.storage.specs.Storage.{atRest}
 use Rattle.queue.specs.Queue as queue
-use Rattle.line.specs.declared.Answer.{Answer}
-use Rattle.line.specs.declared.Answer.the-variants as answer
+use Rattle.refusal.specs.declared.Answer.{Answer}
+use Rattle.refusal.specs.declared.Answer.the-variants as answer
 use Rattle.module.specs.declared.Module.{Module}
 use Rattle.module.specs.declared.Told.{Told}
 use Rattle.module.specs.declared.Numbers.{Numbers}

@@ -1,2 +1,3 @@
--- The refusals' meaning.
+-- The refusals' meaning, and a line's answer.
 pub mod Meaning
+pub mod Answer

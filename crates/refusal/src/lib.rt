@@ -1,6 +1,7 @@
-// The refusals of document 01, with the number and the standard event bit of each.
+// The refusals of document 01, with the number and the standard event bit of each, and a line's answer, its first refusal.
 ghost use mathlib.Core.Path.{_≡_};
 ghost use Rattle.refusal.specs.Meaning.{meaningOf, numberOf};
+ghost use Rattle.refusal.specs.Answer.{firstOf, isNoRoom, drops};
 
 // Why a command, a line, an event, a script or a state is not taken.
 pub enum Refusal {
@@ -32,6 +33,12 @@ pub enum Refusal {
 pub enum Outcome {
     Done,
     Refused(Refusal),
+}
+
+// A line's answer: nothing refused, or the first refusal and the place of its command, from 1.
+pub enum Answer {
+    Passed,
+    Refused(Refusal, u32),
 }
 
 // The number that the papers give a refusal, and the standard event bits that it sets.
@@ -97,5 +104,46 @@ pub fn number_of(outcome: Outcome) -> u8
             let meaning = meaning_of(refusal);
             meaning.number
         }
+    }
+}
+
+// The answer once a command at a place has come to an outcome.
+pub fn first_of(answer: Answer, outcome: Outcome, place: u32) -> Answer
+    ensures { λ r. ⌜ r ≡ firstOf answer outcome place ⌝ }
+{
+    match answer {
+        Answer::Refused(_, _) => answer,
+        Answer::Passed => match outcome {
+            Outcome::Done => Answer::Passed,
+            Outcome::Refused(refusal) => Answer::Refused(refusal, place),
+        },
+    }
+}
+
+fn is_no_room(refusal: Refusal) -> bool
+    ensures { λ r. ⌜ r ≡ isNoRoom refusal ⌝ }
+{
+    match refusal {
+        Refusal::Malformed => false,
+        Refusal::OutOfRange => false,
+        Refusal::NotAllowed => false,
+        Refusal::NoRoom => true,
+        Refusal::LongLine => false,
+        Refusal::BadEvent => false,
+        Refusal::NoReset => false,
+        Refusal::LongScriptLine => false,
+        Refusal::BadTraces => false,
+        Refusal::BadStart => false,
+        Refusal::BadState => false,
+    }
+}
+
+// Whether an outcome drops the rest of the line.
+pub fn drops(outcome: Outcome) -> bool
+    ensures { λ r. ⌜ r ≡ drops outcome ⌝ }
+{
+    match outcome {
+        Outcome::Done => false,
+        Outcome::Refused(refusal) => is_no_room(refusal),
     }
 }

@@ -12,7 +12,7 @@ use Rattle.divide.proofs.Span.{span-le}
 use Rattle.refusal.specs.declared.Refusal.{Refusal}
 use Rattle.refusal.specs.declared.Refusal.the-variants.{NoReset, LongScriptLine}
 use Rattle.line.specs.Line.{textsOf}
-use Rattle.line.specs.declared.Answer.the-variants as answer
+use Rattle.refusal.specs.declared.Answer.the-variants as answer
 use Rattle.two_courses.specs.Courses.{gapOf, startBoth}
 use Rattle.two_courses.specs.declared.Both.{Both}
 use Rattle.script.specs.declared.Swept.{Swept}

@@ -2,7 +2,7 @@
 use Prim.Native.Nat.{ℕ}
 use mathlib.Core.Path.{_≡_}
 use mathlib.Core.List.{List}
-use Rattle.line.specs.declared.Answer.the-variants.{Passed}
+use Rattle.refusal.specs.declared.Answer.the-variants.{Passed}
 use Rattle.two_courses.specs.declared.Both.{Both}
 use Rattle.script.specs.Check.{textsAnswer, textsAfter}
 use Rattle.script.specs.declared.Swept.{Swept}

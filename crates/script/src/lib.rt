@@ -7,7 +7,7 @@ ghost use Rattle.line.specs.Line.{semicolon, textsOf};
 ghost use Rattle.two_courses.specs.Courses.{gapOf, startBoth};
 ghost use Rattle.script.specs.Check.{linesVerdict, linesOf, capacityFits, checkOf};
 ghost use Rattle.script.specs.Given.{Sweeps};
-use line::Answer;
+use refusal::Answer;
 use refusal::Outcome;
 use refusal::Refusal;
 use two_courses::Both;

@@ -1,8 +1,8 @@
--- `line::is_no_room` meets its contract. Assumes nothing.
+-- `refusal::is_no_room` meets its contract. Assumes nothing.
 use borrow.Author.Needs.{needs}
-use Rattle.line.specs.Line.{isNoRoom}
-use Rattle.line.proofs.is_no_room.Statement.{statement}
-use Rattle.line.proofs.is_no_room.Tie as tie
+use Rattle.refusal.specs.Answer.{isNoRoom}
+use Rattle.refusal.proofs.is_no_room.Statement.{statement}
+use Rattle.refusal.proofs.is_no_room.Tie as tie
 
 enum-told : tie.Need-enum-told
 enum-told c = search needs

@@ -1,8 +1,8 @@
--- `line::first_of` meets its contract. Assumes nothing.
+-- `refusal::first_of` meets its contract. Assumes nothing.
 use borrow.Author.Needs.{needs}
-use Rattle.line.specs.Line.{firstOf}
-use Rattle.line.proofs.first_of.Statement.{statement}
-use Rattle.line.proofs.first_of.Tie as tie
+use Rattle.refusal.specs.Answer.{firstOf}
+use Rattle.refusal.proofs.first_of.Statement.{statement}
+use Rattle.refusal.proofs.first_of.Tie as tie
 
 enum-told : tie.Need-enum-told
 enum-told c = search needs

@@ -1,8 +1,8 @@
--- `line::drops` meets its contract. Assumes nothing.
+-- `refusal::drops` meets its contract. Assumes nothing.
 use borrow.Author.Needs.{needs}
-use Rattle.line.specs.Line.{drops}
-use Rattle.line.proofs.drops.Statement.{statement}
-use Rattle.line.proofs.drops.Tie as tie
+use Rattle.refusal.specs.Answer.{drops}
+use Rattle.refusal.proofs.drops.Statement.{statement}
+use Rattle.refusal.proofs.drops.Tie as tie
 
 enum-told : tie.Need-enum-told
 enum-told c = search needs

@@ -1,0 +1,33 @@
+-- A line's answer, and which refusal drops the rest of a line: document 01, "Refusal numbers" and "Lines and commands".
+use Prim.Native.Nat.{ℕ}
+use mathlib.Core.Bool.{Bool, true, false}
+use Rattle.refusal.specs.declared.Refusal.{Refusal}
+use Rattle.refusal.specs.declared.Refusal.the-variants.{Malformed, OutOfRange, NotAllowed, NoRoom, LongLine, BadEvent, NoReset, LongScriptLine, BadTraces, BadStart, BadState}
+use Rattle.refusal.specs.declared.Outcome.{Outcome}
+use Rattle.refusal.specs.declared.Outcome.the-variants as outcome
+use Rattle.refusal.specs.declared.Answer.{Answer}
+use Rattle.refusal.specs.declared.Answer.the-variants.{Passed, Refused}
+
+-- "A line's answer is its first refusal and place .., or 0."
+unfoldable pub firstOf : Answer → Outcome → ℕ → Answer
+firstOf Passed outcome.Done place = Passed
+firstOf Passed (outcome.Refused r) place = Refused r place
+firstOf (Refused r earlier) told place = Refused r earlier
+
+-- "A refused command does not stop the rest of the line, save under 4"
+unfoldable pub isNoRoom : Refusal → Bool
+isNoRoom Malformed = false
+isNoRoom OutOfRange = false
+isNoRoom NotAllowed = false
+isNoRoom NoRoom = true
+isNoRoom LongLine = false
+isNoRoom BadEvent = false
+isNoRoom NoReset = false
+isNoRoom LongScriptLine = false
+isNoRoom BadTraces = false
+isNoRoom BadStart = false
+isNoRoom BadState = false
+
+unfoldable pub drops : Outcome → Bool
+drops outcome.Done = false
+drops (outcome.Refused r) = isNoRoom r
