@@ -1,3 +1,2 @@
 -- Laws on replies.
-pub mod Texts
 pub mod Sends

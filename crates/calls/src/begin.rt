@@ -16,9 +16,16 @@ fn clear(trace: &mut [u32]) {
     }
 }
 
+// The first n words of a trace, all of them where there are fewer.
+fn first_of(trace: &[u32], n: usize) -> &[u32] {
+    if trace.len() < n {
+        return trace;
+    }
+    &trace[0..n]
+}
+
 // Clears the traces, and starts a module over the first words of each.
 pub fn start(
-    m: Module,
     serial: u32,
     port: u32,
     first: usize,
@@ -26,15 +33,9 @@ pub fn start(
     one: &mut [u32],
     two: &mut [u32],
 ) -> Module {
-    if one.len() < first {
-        return crate::wrong(m);
-    }
-    if two.len() < second {
-        return crate::wrong(m);
-    }
     clear(one);
     clear(two);
-    let started = lockin::start(serial, port, &one[0..first], &two[0..second]);
+    let started = lockin::start(serial, port, first_of(one, first), first_of(two, second));
     let outcome = started.outcome;
     crate::tell_number(b"R ", refusal::number_of(outcome));
     started.after

@@ -1,2 +1,3 @@
 -- Laws of a line's bytes that count.
 pub mod Kept
+pub mod Bound

@@ -1,2 +1,3 @@
 -- What counts of a line's bytes.
 pub mod Clean
+pub mod Texts

@@ -105,7 +105,7 @@ fn read_one(args: &[u8], decimals: u8) -> Reading
 {
     let alone = is_alone(args);
     if alone {
-        return number::read(args, decimals);
+        return reading::read(args, decimals);
     }
     Reading::NotNumber
 }
@@ -117,10 +117,10 @@ fn read_two(args: &[u8], first: u8, second: u8) -> TwoNumbers
         return TwoNumbers::Not;
     };
     let start = comma + 1;
-    let Reading::Number(a) = number::read(&args[..comma], first) else {
+    let Reading::Number(a) = reading::read(&args[..comma], first) else {
         return TwoNumbers::Not;
     };
-    let Reading::Number(b) = number::read(&args[start..], second) else {
+    let Reading::Number(b) = reading::read(&args[start..], second) else {
         return TwoNumbers::Not;
     };
     TwoNumbers::Numbers(a, b)
@@ -132,7 +132,7 @@ fn read_three(args: &[u8], first: u8, second: u8, third: u8) -> ThreeNumbers
     let comma = divide::span_of(args, b',');
     if comma < args.len() {
         let start = comma + 1;
-        let Reading::Number(a) = number::read(&args[..comma], first) else {
+        let Reading::Number(a) = reading::read(&args[..comma], first) else {
             return ThreeNumbers::Not;
         };
         let TwoNumbers::Numbers(b, c) = read_two(&args[start..], second, third) else {
@@ -331,7 +331,7 @@ fn set_enable(register: Register, args: &[u8]) -> Parsed
 {
     let single = is_alone(args);
     if single {
-        let Reading::Number(v) = number::read(args, 0) else {
+        let Reading::Number(v) = reading::read(args, 0) else {
             return Parsed::Refused(Refusal::Malformed);
         };
         return take_enable(register, v);

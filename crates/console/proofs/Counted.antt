@@ -13,16 +13,16 @@ use Rattle.refusal.specs.declared.Outcome.{Outcome}
 use Rattle.refusal.specs.declared.Outcome.the-variants as outcome
 use Rattle.clean.specs.Clean.{cleaned}
 use Rattle.command.specs.Parsed.{parsedOf}
-use Rattle.line.specs.Line.{semicolon, textsOf}
+use Rattle.clean.specs.Texts.{semicolon, textsOf}
 use Rattle.refusal.specs.declared.Answer.{Answer}
 use Rattle.refusal.specs.declared.Answer.the-variants.{Passed, Refused}
-use Rattle.line.proofs.Cleaned.{cleaned-length}
+use Rattle.clean.proofs.Bound.{cleaned-length}
 use Rattle.two_courses.specs.Courses.{gapOf, textRefusal, textAfter, startBoth}
 use Rattle.two_courses.specs.declared.Both.{Both}
 use Rattle.script.specs.Check.{answerAt, textsAnswer, textsAfter, tooLong, verdictOf, linesVerdict, withoutLast, linesOf, capacityFits, checkOf}
-use Rattle.script.specs.declared.Verdict.{Verdict}
-use Rattle.script.specs.declared.Verdict.the-variants.{Fine, No}
-use Rattle.console.specs.Number.{lineMost, placeMost}
+use Rattle.verdict.specs.declared.Verdict.{Verdict}
+use Rattle.verdict.specs.declared.Verdict.the-variants.{Fine, No}
+use Rattle.verdict.specs.Number.{lineMost, placeMost}
 
 -- ---- how many parts there are
 

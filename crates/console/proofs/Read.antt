@@ -9,9 +9,9 @@ use Rattle.refusal.specs.Meaning.{meaningOf}
 use Rattle.refusal.specs.declared.Refusal.{Refusal}
 use Rattle.refusal.specs.declared.Refusal.the-variants.{Malformed, OutOfRange, NotAllowed, NoRoom, LongLine, BadEvent, NoReset, LongScriptLine, BadTraces, BadStart, BadState}
 use Rattle.script.specs.Check.{checkOf}
-use Rattle.script.specs.declared.Verdict.{Verdict}
-use Rattle.script.specs.declared.Verdict.the-variants.{Fine, No}
-use Rattle.console.specs.Number.{lineMost, placeMost, packed, numberOf, lineRead, placeRead, refusalRead}
+use Rattle.verdict.specs.declared.Verdict.{Verdict}
+use Rattle.verdict.specs.declared.Verdict.the-variants.{Fine, No}
+use Rattle.verdict.specs.Number.{lineMost, placeMost, packed, numberOf, lineRead, placeRead, refusalRead}
 use Rattle.console.specs.Read.{ReadsAs, Read}
 use Rattle.console.proofs.Counted.{Fits, check-fits}
 

@@ -1,3 +1,2 @@
--- The script check's answer as one number, and what is read off it.
-pub mod Number
+-- What is read off the script check's answer.
 pub mod Read

@@ -7,8 +7,8 @@ use lib.ListN.{length}
 use Rattle.refusal.specs.Meaning.{meaningOf}
 use Rattle.refusal.specs.declared.Refusal.{Refusal}
 use Rattle.script.specs.Check.{checkOf}
-use Rattle.script.specs.declared.Verdict.the-variants.{Fine, No}
-use Rattle.console.specs.Number.{numberOf, lineRead, placeRead, refusalRead}
+use Rattle.verdict.specs.declared.Verdict.the-variants.{Fine, No}
+use Rattle.verdict.specs.Number.{numberOf, lineRead, placeRead, refusalRead}
 
 -- a line, a place and a refusal are what is read off a number
 pub record ReadsAs (n line place : ℕ) (refusal : Refusal) : Type 0 where

@@ -15,7 +15,7 @@ use Rattle.command.specs.declared.Kind.{Kind}
 use Rattle.command.specs.declared.Parsed.{Parsed}
 use Rattle.command.specs.declared.Parsed.the-variants as parsed
 use Rattle.allow.specs.Allows.{allowsOf}
-use Rattle.line.specs.Line.{textsOf}
+use Rattle.clean.specs.Texts.{textsOf}
 use Rattle.refusal.specs.declared.Answer.the-variants.{Passed, Refused}
 use Rattle.two_courses.specs.Courses.{resets, gapOf, kindRefusal, textRefusal, kindAfter, textAfter}
 use Rattle.two_courses.specs.declared.Both.{Both}

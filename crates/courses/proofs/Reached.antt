@@ -13,7 +13,8 @@ use Rattle.state.specs.Allowed.{allowedState}
 use Rattle.event.specs.Event.{eventOf}
 use Rattle.event.specs.declared.Event.the-variants.{Trigger, Measured}
 use Rattle.event.proofs.Crossed.{sound}
-use Rattle.line.specs.Line.{startLine, textsOf, lineOf}
+use Rattle.line.specs.Line.{startLine, lineOf}
+use Rattle.clean.specs.Texts.{textsOf}
 use Rattle.refusal.specs.declared.Answer.the-variants.{Passed, Refused}
 use Rattle.module.specs.Module.{allowedModule, guardOf}
 use Rattle.two_courses.specs.Courses.{gapOf, measuredHigh}

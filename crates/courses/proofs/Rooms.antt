@@ -19,7 +19,8 @@ use Rattle.reply.specs.Reply.{fitsIn}
 use Rattle.answer.specs.Reply.{replyOf}
 use Rattle.line.specs.Perform.{refusedBy, doneBy, performed, commandOf}
 use Rattle.refusal.specs.Answer.{isNoRoom, drops}
-use Rattle.line.specs.Line.{Line, waits, afterOf, stepOf, runAll, startLine, textsOf, lineOf}
+use Rattle.line.specs.Line.{Line, waits, afterOf, stepOf, runAll, startLine, lineOf}
+use Rattle.clean.specs.Texts.{textsOf}
 use Rattle.demands.proofs.Sane.{SaneParsed, parsed-sane}
 use Rattle.courses.specs.Course.{World, crowded}
 

@@ -12,7 +12,8 @@ use Rattle.refusal.specs.declared.Outcome.the-variants as outcome
 use Rattle.state.specs.declared.State.{State}
 use Rattle.event.specs.Event.{eventOf}
 use Rattle.event.specs.declared.Event.{Event}
-use Rattle.line.specs.Line.{startLine, textsOf, lineOf}
+use Rattle.line.specs.Line.{startLine, lineOf}
+use Rattle.clean.specs.Texts.{textsOf}
 use Rattle.refusal.specs.declared.Answer.the-variants.{Passed, Refused}
 use Rattle.module.specs.Module.{guardOf}
 use Rattle.lockin.specs.Calls.{guarded, wholeLine, lineCall, guardedEvent, eventCall}

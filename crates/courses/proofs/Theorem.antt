@@ -14,13 +14,12 @@ use Rattle.refusal.specs.declared.Outcome.the-variants as outcome
 use Rattle.command.specs.declared.Parsed.{Parsed}
 use Rattle.state.specs.State.{startState}
 use Rattle.refusal.specs.declared.Answer.the-variants.{Passed, Refused}
-use Rattle.module.specs.Start.{unitKnown, tracesFit, freshModule}
+use Rattle.module.specs.Start.{unitKnown, tracesFit, freshModule, startOf}
 use Rattle.module.specs.Module.{guardOf}
-use Rattle.lockin.specs.Start.{startOf}
 use Rattle.two_courses.specs.Courses.{startBoth}
 use Rattle.script.specs.Check.{tooLong, linesOf, capacityFits, checkOf}
-use Rattle.script.specs.declared.Verdict.{Verdict}
-use Rattle.script.specs.declared.Verdict.the-variants.{Fine, No}
+use Rattle.verdict.specs.declared.Verdict.{Verdict}
+use Rattle.verdict.specs.declared.Verdict.the-variants.{Fine, No}
 use Rattle.demands.proofs.StaysAllowed.{stays-allowed}
 use Rattle.courses.specs.Course.{World, before, after, Gaps, Course, answerOf, answers}
 use Rattle.courses.specs.Demand3.{lineAt, Short, first, leadOf, isReset, begins, AllPass, FirstRefused, NotBegun, other, nothing, LongAt, Demand3}

@@ -13,11 +13,11 @@ use Rattle.refusal.specs.declared.Refusal.the-variants.{NoReset, LongScriptLine
 use Rattle.command.specs.Parsed.{parsedOf}
 use Rattle.command.specs.declared.Parsed.{Parsed}
 use Rattle.command.specs.declared.Parsed.the-variants.{Empty, Taken, Refused}
-use Rattle.line.specs.Line.{textsOf}
+use Rattle.clean.specs.Texts.{textsOf}
 use Rattle.refusal.specs.declared.Answer.the-variants as answer
 use Rattle.two_courses.specs.Courses.{resets}
 use Rattle.script.specs.Check.{tooLong, linesOf, capacityFits, checkOf}
-use Rattle.script.specs.declared.Verdict.the-variants.{Fine, No}
+use Rattle.verdict.specs.declared.Verdict.the-variants.{Fine, No}
 use Rattle.courses.specs.Course.{Course, answers}
 
 -- ---- the script itself

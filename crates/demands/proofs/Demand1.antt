@@ -19,7 +19,8 @@ use Rattle.state.specs.State.{withRegisters, markedBy}
 use Rattle.state.specs.declared.State.{State}
 use Rattle.line.specs.Perform.{Effect, refusedBy, doneBy, commandOf}
 use Rattle.refusal.specs.Answer.{isNoRoom, drops, firstOf}
-use Rattle.line.specs.Line.{Line, waits, afterOf, stepOf, runAll, startLine, textsOf, lineOf}
+use Rattle.line.specs.Line.{Line, waits, afterOf, stepOf, runAll, startLine, lineOf}
+use Rattle.clean.specs.Texts.{textsOf}
 use Rattle.refusal.specs.declared.Answer.{Answer}
 use Rattle.refusal.specs.declared.Answer.the-variants as answer
 use Rattle.event.specs.Event.{legalPair, withLatest, done, refused, pairTaken, bitsRaised, sampledIn, eventOf}

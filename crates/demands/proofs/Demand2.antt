@@ -11,7 +11,7 @@ use Rattle.command.specs.Arguments.{comma}
 use Rattle.command.specs.declared.SetArgument.the-variants as set
 use Rattle.command.specs.declared.QueryArgument.the-variants as query
 use Rattle.state.specs.declared.State.{State}
-use Rattle.answer.specs.Reply.{valueText, pairText, textOf}
+use Rattle.reply_text.specs.ReplyText.{valueText, pairText, textOf}
 use Rattle.demands.specs.Written.{written}
 use Rattle.demands.specs.Demand2.{plainly, channelled, alone, channel, pair, Allowed, Internal, SentBack, Demand2}
 use Rattle.demands.proofs.Meanings.{name-of-one, name-of-channel, name-of-pair}

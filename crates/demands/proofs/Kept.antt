@@ -20,7 +20,7 @@ use Rattle.state.specs.Allowed.{keepsParts, allowedState}
 use Rattle.state.specs.State.{detectionNow, crossedFrom}
 use Rattle.state.specs.declared.State.{State}
 use Rattle.change.specs.Change.{withPair, setIn, settingsAfter, externalAfter, movingAfter, changedBy, stateAfter}
-use Rattle.answer.specs.Reply.{valueNow}
+use Rattle.reply_text.specs.ReplyText.{valueNow}
 
 -- every value of an allowed state may be kept
 pub kept-value : (s : State) → allowedState s ≡ true → (entry : ℕ) → entry < entries → keeps entry (valueOf (s .settings) entry) ≡ true

@@ -16,7 +16,8 @@ use Rattle.state.specs.declared.Unit.{Unit}
 use Rattle.state.specs.declared.State.{State}
 use Rattle.change.specs.Change.{changedBy, stateAfter}
 use Rattle.line.specs.Perform.{Effect, sampledBy, doneBy, commandOf}
-use Rattle.line.specs.Line.{Line, waits, afterOf, stepOf, runAll, startLine, textsOf, lineOf}
+use Rattle.line.specs.Line.{Line, waits, afterOf, stepOf, runAll, startLine, lineOf}
+use Rattle.clean.specs.Texts.{textsOf}
 use Rattle.event.proofs.Stays.{event-stays, event-unit, event-first, event-second, stored-length}
 use Rattle.demands.specs.Allowed.{Stays, StatesStay}
 use Rattle.demands.proofs.Sane.{parsed-sane}

@@ -23,11 +23,10 @@ use Rattle.queue.proofs.Stays.{empty-keeps, emptied-keeps, fed-keeps}
 use Rattle.line.specs.Line.{lineOf}
 use Rattle.event.specs.Event.{eventOf}
 use Rattle.event.specs.declared.Event.{Event}
-use Rattle.module.specs.Start.{unitKnown, tracesFit, freshModule, refusedStart}
+use Rattle.module.specs.Start.{unitKnown, tracesFit, freshModule, refusedStart, startOf}
 use Rattle.module.specs.Module.{allowedModule, guardOf}
 use Rattle.module.specs.declared.Module.{Module}
 use Rattle.module.specs.declared.Started.{Started}
-use Rattle.lockin.specs.Start.{startOf}
 use Rattle.lockin.specs.Calls.{Call, guarded, ran, tooLong, wholeLine, lineCall, endedLine, fedCall, fedByte, byteCall, EventCall, occurred, guardedEvent, eventCall}
 use Rattle.demands.specs.Allowed.{Stays, Goes, Made, byStart, byLine, byByte, byEvent, StaysAllowed}
 use Rattle.demands.proofs.Change.{marked-stays}

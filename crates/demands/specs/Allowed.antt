@@ -17,7 +17,7 @@ use Rattle.event.specs.declared.Event.{Event}
 use Rattle.queue.specs.Queue.{lineLimit}
 use Rattle.module.specs.Module.{allowedModule, guardOf}
 use Rattle.module.specs.declared.Module.{Module}
-use Rattle.lockin.specs.Start.{startOf}
+use Rattle.module.specs.Start.{startOf}
 use Rattle.lockin.specs.Calls.{lineCall, byteCall, eventCall}
 
 -- from a state and its traces to others: an allowed state stays allowed, what is fixed at start stays, and each trace keeps its length

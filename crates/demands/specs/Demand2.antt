@@ -4,7 +4,7 @@
 --
 -- "Demand 2 shuts out a core that refuses everything, one that replies alike to all, one that accepts and keeps nothing, one that does a line's first
 -- command and merely acknowledges the others, and one whose SPTS? is invented." As wrong programs these are, under crates/: module/must-fail/refuses_everything,
--- answer/must-fail/replies_alike, change/must-fail/keeps_nothing, line/must-fail/later_commands_acknowledged and answer/must-fail/points_invented.
+-- reply_text/must-fail/replies_alike, change/must-fail/keeps_nothing, line/must-fail/later_commands_acknowledged and reply_text/must-fail/points_invented.
 use Prim.Native.Nat.{ℕ, _+_, _-_, _*_, _<_, _≤_}
 use mathlib.Core.Path.{_≡_}
 use mathlib.Core.Bool.{Bool, true}
@@ -25,7 +25,7 @@ use Rattle.state.specs.Allowed.{allowedState}
 use Rattle.state.specs.declared.State.{State}
 use Rattle.allow.specs.Allows.{allowsOf}
 use Rattle.change.specs.Change.{stateAfter}
-use Rattle.answer.specs.Reply.{textOf}
+use Rattle.reply_text.specs.ReplyText.{textOf}
 
 -- a setting as commands name it: the text of its query, the text that sends a reply back, and the entries of the table that hold its values
 pub record Address : Type 0 where

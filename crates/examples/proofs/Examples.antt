@@ -25,15 +25,15 @@ use Rattle.state.specs.Storing.{storedIn}
 use Rattle.state.specs.Allowed.{keepsUnit, keepsLatest, keepsParts, allowedState}
 use Rattle.allow.specs.Allows.{keepsLimit, valueAllowed, setAllowed, queryAllowed, allowsOf}
 use Rattle.change.specs.Change.{setIn, restoredBy, settingsAfter, storageBy, storageAfter, movingAfter, changedBy, stateAfter}
-use Rattle.answer.specs.Reply.{valueNow, valueText, textOf, endedText, traceReply, queryReply, replyOf}
-use Rattle.refusal.specs.Answer.{firstOf, isNoRoom, drops}
+use Rattle.reply_text.specs.ReplyText.{valueNow, valueText, textOf}
+use Rattle.answer.specs.Reply.{endedText, traceReply, queryReply, replyOf}
+use Rattle.refusal.specs.Answer.{firstOf, isNoRoom, drops, numbered, numbersOf}
 use Rattle.line.specs.Perform.{doneBy, performed, commandOf}
 use Rattle.line.specs.Line as line
 use Rattle.event.specs.Event.{withLatest, legalPair, pairTaken, eventOf}
 use Rattle.queue.specs.Queue as queue
-use Rattle.module.specs.Start.{unitKnown, tracesFit, freshModule}
-use Rattle.module.specs.Module.{numbered, numbersOf, allowedModule, guardOf}
-use Rattle.lockin.specs.Start.{startOf}
+use Rattle.module.specs.Start.{unitKnown, tracesFit, freshModule, startOf}
+use Rattle.module.specs.Module.{allowedModule, guardOf}
 use Rattle.lockin.specs.Calls.{guarded, wholeLine, lineCall, guardedEvent, eventCall}
 use Rattle.two_courses.specs.Courses.{resets, measuredHigh, triggeredHigh, gapOf, kindRefusal, textRefusal, kindAfter, textAfter}
 use Rattle.script.specs.Check.{answerAt, textsAnswer, textsAfter, verdictOf, linesVerdict, withoutLast, checkOf}

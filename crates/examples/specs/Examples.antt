@@ -9,14 +9,14 @@ use Rattle.refusal.specs.Meaning.{meaningOf}
 use Rattle.settings.specs.Table.{phas, freq, harm, oflt, srat, rowOf, startSettings, withValue}
 use Rattle.settings.specs.declared.Settings.{Settings}
 use Rattle.event.specs.declared.Event.the-variants.{Latest}
-use Rattle.module.specs.Module.{numbersOf}
+use Rattle.refusal.specs.Answer.{numbersOf}
 use Rattle.module.specs.declared.Module.{Module}
-use Rattle.module.specs.declared.Numbers.{Numbers}
-use Rattle.lockin.specs.Start.{startOf}
+use Rattle.refusal.specs.declared.Numbers.{Numbers}
+use Rattle.module.specs.Start.{startOf}
 use Rattle.lockin.specs.Calls.{lineCall, eventCall}
 use Rattle.script.specs.Check.{checkOf}
-use Rattle.script.specs.declared.Verdict.{Verdict}
-use Rattle.script.specs.declared.Verdict.the-variants.{Fine, No}
+use Rattle.verdict.specs.declared.Verdict.{Verdict}
+use Rattle.verdict.specs.declared.Verdict.the-variants.{Fine, No}
 
 -- ---- the examples
 

@@ -6,7 +6,7 @@ use mathlib.Core.List.{[]}
 use Rattle.divide.specs.Ascii.{bytes}
 use Rattle.refusal.specs.declared.Refusal.the-variants.{NoReset}
 use Rattle.script.specs.Check.{capacityFits, checkOf}
-use Rattle.script.specs.declared.Verdict.the-variants.{Fine, No}
+use Rattle.verdict.specs.declared.Verdict.the-variants.{Fine, No}
 
 pub record Scripts (capacity : ℕ) : Type 0 where
   -- "`*RST` alone must pass"

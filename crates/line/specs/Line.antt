@@ -5,8 +5,7 @@ use mathlib.Core.Path.{_≡_}
 use mathlib.Core.List.{List, [], _∷_, _++_}
 use lib.Dec.{ltb}
 use lib.ListN.{length, take}
-use Rattle.divide.specs.Divide.{parts}
-use Rattle.clean.specs.Clean.{cleaned}
+use Rattle.clean.specs.Texts.{textsOf}
 use Rattle.refusal.specs.Answer.{firstOf, drops}
 use Rattle.command.specs.Parsed.{parsedOf}
 use Rattle.state.specs.declared.State.{State}
@@ -56,14 +55,6 @@ runAll room (text ∷ more) l =
 
 abbrev pub startLine : State → List ℕ → List ℕ → Line
 startLine s one two = record { state = s; one = one; two = two; out = []; answer = Passed; count = 0; dropped = false }
-
--- "Commands are divided by ";""
-abbrev pub semicolon : ℕ
-semicolon = 59
-
--- a line's bytes as its commands' texts
-abbrev pub textsOf : List ℕ → List (List ℕ)
-textsOf line = parts semicolon (cleaned line)
 
 -- what a line of at most 256 bytes does, in a room of so many reply bytes
 unfoldable pub lineOf : ℕ → List ℕ → State → List ℕ → List ℕ → Line

@@ -6,7 +6,7 @@ use mathlib.Core.List.{List, []}
 use lib.Dec.{leb}
 use lib.ListN.{length}
 use Rattle.refusal.specs.declared.Refusal.{Refusal}
-use Rattle.refusal.specs.declared.Refusal.the-variants.{LongLine, BadState}
+use Rattle.refusal.specs.declared.Refusal.the-variants.{LongLine}
 use Rattle.refusal.specs.declared.Outcome.{Outcome}
 use Rattle.refusal.specs.declared.Outcome.the-variants as outcome
 use Rattle.state.specs.State.{markedBy}
@@ -19,12 +19,12 @@ use Rattle.line.specs.Line.{Line, lineOf}
 use Rattle.refusal.specs.declared.Answer.the-variants as answer
 use Rattle.event.specs.Event.{Occurred, eventOf}
 use Rattle.event.specs.declared.Event.{Event}
-use Rattle.module.specs.Module.{allowedModule, guardOf, toldOf, statusBetween}
+use Rattle.module.specs.Module.{guardOf}
 use Rattle.module.specs.declared.Module.{Module}
-use Rattle.module.specs.declared.Told.{Told}
+use Rattle.refusal.specs.declared.Told.{Told}
+use Rattle.refusal.specs.Answer.{toldOf}
 use Rattle.module.specs.declared.Called.{Called}
 use Rattle.lockin.specs.declared.Taken.{Taken}
-use Rattle.lockin.specs.declared.Polled.{Polled}
 
 -- a call with a line or a byte: the module and both traces after it, the reply bytes, and what is told
 pub record Call : Type 0 where
@@ -114,10 +114,3 @@ pub record Happens (c : EventCall) (r : Taken) (one two : List ℕ) : Type 0 whe
   pub outcome : r .outcome ≡ c .outcome
   pub first : one ≡ c .one
   pub second : two ≡ c .two
-
--- a serial poll: the status byte between lines, told as 0 under 11, "a state outside the ranges, steps and limits above"
-unfoldable pub pollOf : Module → Polled
-pollOf m =
-    cond (allowedModule m)
-    (record { status = statusBetween (m .state); outcome = outcome.Done })
-    (record { status = 0; outcome = outcome.Refused BadState })

@@ -3,7 +3,7 @@ use Prim.Native.Nat.{ℕ}
 use mathlib.Core.Bool.{cond}
 use Rattle.queue.specs.declared.Queue.{Queue}
 use Rattle.line.specs.declared.Progress.{Progress}
-use Rattle.module.specs.Module.{toldOf}
+use Rattle.refusal.specs.Answer.{toldOf}
 use Rattle.module.specs.declared.Called.{Called}
 
 abbrev pub lengthOf : Progress → ℕ

@@ -1,4 +1,3 @@
 -- What the public calls do.
-pub mod Start
 pub mod Calls
 pub mod Given

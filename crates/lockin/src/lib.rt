@@ -2,23 +2,23 @@
 ghost use mathlib.Core.Path.{_≡_};
 ghost use lib.ListN.{length};
 ghost use Rattle.event.specs.Event.{eventOf};
-ghost use Rattle.lockin.specs.Start.{startOf};
-ghost use Rattle.lockin.specs.Calls.{wholeLine, lineCall, endedLine, fedCall, fedByte, byteCall, Answers, occurred, eventCall, Happens, pollOf};
+ghost use Rattle.module.specs.Start.{startOf};
+ghost use Rattle.module.specs.Module.{pollOf};
+ghost use Rattle.lockin.specs.Calls.{wholeLine, lineCall, endedLine, fedCall, fedByte, byteCall, Answers, occurred, eventCall, Happens};
 ghost use Rattle.lockin.specs.Given.{lengthOf, ranCalled};
 use event::Event;
 use line::Progress;
 pub use module::Called;
 pub use module::Module;
-pub use module::Numbers;
+pub use module::Polled;
 pub use module::Started;
-pub use module::Told;
-pub use module::numbers_of;
 use queue::Ended;
 use queue::Queue;
 use refusal::Answer;
+pub use refusal::Numbers;
 use refusal::Outcome;
-use refusal::Refusal;
-use state::Unit;
+pub use refusal::Told;
+pub use refusal::numbers_of;
 
 // The module after an event, and whether it was refused.
 pub struct Taken {
@@ -26,32 +26,11 @@ pub struct Taken {
     pub outcome: Outcome,
 }
 
-// A serial poll: the status byte, 0 where the state was refused.
-pub struct Polled {
-    pub status: u8,
-    pub outcome: Outcome,
-}
-
 // A fresh module over two traces, which are not written. Port 0 is RS232, 1 is GPIB.
 pub fn start(serial: u32, port: u32, one: &[u32], two: &[u32]) -> Started
     ensures { λ r. ⌜ r ≡ startOf serial port (length (now (one .entry))) (length (now (two .entry))) ⌝ }
 {
-    if module::unit_known(serial, port) {
-        let capacity = one.len();
-        if module::traces_fit(capacity, two.len()) {
-            let unit = Unit {
-                serial,
-                port: (port % 256) as u8,
-                capacity: (capacity % 65536) as u32,
-            };
-            return Started {
-                after: module::fresh(unit),
-                outcome: Outcome::Done,
-            };
-        }
-        return module::refused_start(Refusal::BadTraces);
-    }
-    module::refused_start(Refusal::BadStart)
+    module::start(serial, port, one.len(), two.len())
 }
 
 // The length told of a line that ran.
@@ -155,9 +134,7 @@ fn fed_byte(
 ) -> Called
     ensures { λ r. ⌜ Answers (fedByte (length (now (reply .entry))) b mark m (now (one .entry)) (now (two .entry))) r (now (one .exit)) (now (two .exit)) (now (reply .exit)) (now (reply .entry)) ⌝ }
 {
-    let state = m.state;
-    let unit = state.unit;
-    let fed = queue::feed(m.queue, unit.port, b, mark);
+    let fed = module::fed(m.queue, m.state.unit, b, mark);
     let queue = fed.queue;
     let ended = fed.ended;
     fed_call(m, queue, ended, one, two, reply)
@@ -216,15 +193,5 @@ pub fn take_event(m: Module, e: Event, one: &mut [u32], two: &mut [u32]) -> Take
 pub fn poll(m: Module) -> Polled
     ensures { λ r. ⌜ r ≡ pollOf m ⌝ }
 {
-    if module::allowed(m) {
-        let state = m.state;
-        return Polled {
-            status: module::status_between(state),
-            outcome: Outcome::Done,
-        };
-    }
-    Polled {
-        status: 0,
-        outcome: Outcome::Refused(Refusal::BadState),
-    }
+    module::poll(m)
 }

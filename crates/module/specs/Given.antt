@@ -4,7 +4,7 @@ use Rattle.refusal.specs.declared.Refusal.the-variants.{LongLine}
 use Rattle.state.specs.State.{markedBy}
 use Rattle.queue.specs.declared.Queue.{Queue}
 use Rattle.refusal.specs.declared.Answer.the-variants.{Refused}
-use Rattle.module.specs.Module.{toldOf}
+use Rattle.refusal.specs.Answer.{toldOf}
 use Rattle.module.specs.declared.Module.{Module}
 use Rattle.module.specs.declared.Called.{Called}
 

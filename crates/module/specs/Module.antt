@@ -1,8 +1,7 @@
--- A module: what is told of a call, whether a call may be done, and the status byte: document 01, "Refusal numbers" and "Events, status, identity".
+-- A module: whether a call may be done, the status byte and the serial poll: document 01, "Refusal numbers" and "Events, status, identity".
 use Prim.Native.Nat.{ℕ}
 use mathlib.Core.Bool.{Bool, true, false, cond, _&&_}
 use lib.Dec.{eqb}
-use Rattle.refusal.specs.Meaning.{meaningOf}
 use Rattle.refusal.specs.declared.Refusal.the-variants.{BadTraces, BadState}
 use Rattle.refusal.specs.declared.Outcome.{Outcome}
 use Rattle.refusal.specs.declared.Outcome.the-variants as outcome
@@ -11,22 +10,8 @@ use Rattle.state.specs.declared.State.{State}
 use Rattle.status.specs.Status.{statusByte}
 use Rattle.storage.specs.Storage.{atRest}
 use Rattle.queue.specs.Queue as queue
-use Rattle.refusal.specs.declared.Answer.{Answer}
-use Rattle.refusal.specs.declared.Answer.the-variants as answer
 use Rattle.module.specs.declared.Module.{Module}
-use Rattle.module.specs.declared.Told.{Told}
-use Rattle.module.specs.declared.Numbers.{Numbers}
-
-abbrev pub toldOf : Answer → ℕ → Told
-toldOf a n = record { answer = a; length = n }
-
--- the paper's numbers for an answer: refusal, place and length; "An answer 0 has place 0"
-unfoldable pub numbered : Answer → ℕ → Numbers
-numbered answer.Passed n = record { refusal = 0; place = 0; length = n }
-numbered (answer.Refused r place) n = record { refusal = meaningOf r .number; place = place; length = n }
-
-unfoldable pub numbersOf : Told → Numbers
-numbersOf t = numbered (t .answer) (t .length)
+use Rattle.module.specs.declared.Polled.{Polled}
 
 -- refusal 11: "a state outside the ranges, steps and limits above"; the queue is part of it
 unfoldable pub allowedModule : Module → Bool
@@ -43,3 +28,10 @@ guardOf m first second =
 unfoldable pub statusBetween : State → ℕ
 statusBetween s =
     statusByte (s .registers) (s .enables) (record { «at_rest» = atRest (s .moving .storage); idle = true; waiting = false })
+
+-- a serial poll: the status byte between lines, told as 0 under 11, "a state outside the ranges, steps and limits above"
+unfoldable pub pollOf : Module → Polled
+pollOf m =
+    cond (allowedModule m)
+    (record { status = statusBetween (m .state); outcome = outcome.Done })
+    (record { status = 0; outcome = outcome.Refused BadState })

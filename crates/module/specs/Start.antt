@@ -1,9 +1,10 @@
--- A start's parts: document 01, refusals 10 and 9, and the module of a refused start.
+-- The start: document 01, refusals 10 and 9, and the module of a refused start.
 use Prim.Native.Nat.{ℕ}
-use mathlib.Core.Bool.{Bool, _&&_}
+use mathlib.Core.Bool.{Bool, cond, _&&_}
 use lib.Dec.{leb, eqb}
 use Rattle.refusal.specs.declared.Refusal.{Refusal}
-use Rattle.refusal.specs.declared.Outcome.the-variants.{Refused}
+use Rattle.refusal.specs.declared.Refusal.the-variants.{BadTraces, BadStart}
+use Rattle.refusal.specs.declared.Outcome.the-variants.{Done, Refused}
 use Rattle.state.specs.State.{startState}
 use Rattle.state.specs.declared.Unit.{Unit}
 use Rattle.queue.specs.Queue.{emptyQueue}
@@ -24,3 +25,12 @@ freshModule u = record { state = startState u; queue = emptyQueue }
 -- "a start refused by 10 or 9 gives serial 0, GPIB, capacity 1"
 abbrev pub refusedStart : Refusal → Started
 refusedStart r = record { after = freshModule (record { serial = 0; port = 1; capacity = 1 }); outcome = Refused r }
+
+-- "Order: 10, .., 9"; the traces are not written
+unfoldable pub startOf : ℕ → ℕ → ℕ → ℕ → Started
+startOf serial port first second =
+    cond (unitKnown serial port)
+    (cond (tracesFit first second)
+    (record { after = freshModule (record { serial = serial; port = port; capacity = first }); outcome = Done })
+    (refusedStart BadTraces))
+    (refusedStart BadStart)

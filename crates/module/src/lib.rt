@@ -1,15 +1,17 @@
-// A module: its state and its queue; refusals 9, 10 and 11; what a call tells.
+// A module: its state and its queue; the start, the serial poll, and refusals 9, 10 and 11.
 ghost use mathlib.Core.Path.{_≡_};
 ghost use Prim.Native.Nat.{_≤_};
 ghost use lib.ListN.{take};
-ghost use Rattle.queue.specs.Queue.{waitingBytes};
-ghost use Rattle.module.specs.Start.{unitKnown, tracesFit, freshModule, refusedStart};
-ghost use Rattle.module.specs.Module.{numbersOf, allowedModule, guardOf, statusBetween};
+ghost use Rattle.queue.specs.Queue.{waitingBytes, fedOf};
+ghost use Rattle.module.specs.Start.{unitKnown, tracesFit, freshModule, refusedStart, startOf};
+ghost use Rattle.module.specs.Module.{allowedModule, guardOf, statusBetween, pollOf};
 ghost use Rattle.module.specs.Given.{untouchedCalled, tooLongCalled};
+use queue::Fed;
 use queue::Queue;
 use refusal::Answer;
 use refusal::Outcome;
 use refusal::Refusal;
+use refusal::Told;
 use state::State;
 use state::Unit;
 use status::Poll;
@@ -26,17 +28,10 @@ pub struct Started {
     pub outcome: Outcome,
 }
 
-// What is told of a line: its first refusal and place, if any, and the length of its reply.
-pub struct Told {
-    pub answer: Answer,
-    pub length: usize,
-}
-
-// The same in numbers: 0 where nothing is refused.
-pub struct Numbers {
-    pub refusal: u8,
-    pub place: u32,
-    pub length: usize,
+// A serial poll: the status byte, 0 where the state was refused.
+pub struct Polled {
+    pub status: u8,
+    pub outcome: Outcome,
 }
 
 // The module after a line or a byte, and what is told. A byte that ends no line tells nothing refused and length 0.
@@ -49,23 +44,16 @@ pub struct Called {
 pub fn unit_known(serial: u32, port: u32) -> bool
     ensures { λ r. ⌜ r ≡ unitKnown serial port ⌝ }
 {
-    if state::SERIAL_MOST < serial {
-        return false;
-    }
-    port <= state::GPIB as u32
+    (serial <= state::SERIAL_MOST) & (port <= state::GPIB as u32)
 }
 
 // The lengths of both traces as a start takes them, else refusal 9.
 pub fn traces_fit(first: usize, second: usize) -> bool
     ensures { λ r. ⌜ r ≡ tracesFit first second ⌝ }
 {
-    if first == second {
-        if first < settings::CAPACITY_LEAST as usize {
-            return false;
-        }
-        return first <= settings::CAPACITY_MOST as usize;
-    }
-    false
+    let least = settings::CAPACITY_LEAST as usize;
+    let most = settings::CAPACITY_MOST as usize;
+    (first == second) & ((least <= first) & (first <= most))
 }
 
 // A module at its start.
@@ -93,54 +81,42 @@ pub fn refused_start(refusal: Refusal) -> Started
     }
 }
 
-// The numbers of what is told.
-pub fn numbers_of(told: Told) -> Numbers
-    ensures { λ r. ⌜ r ≡ numbersOf told ⌝ }
+// A fresh module over two traces of these lengths. Port 0 is RS232, 1 is GPIB.
+pub fn start(serial: u32, port: u32, first: usize, second: usize) -> Started
+    ensures { λ r. ⌜ r ≡ startOf serial port first second ⌝ }
 {
-    let answer = told.answer;
-    match answer {
-        Answer::Passed => Numbers {
-            refusal: 0,
-            place: 0,
-            length: told.length,
-        },
-        Answer::Refused(refusal, place) => {
-            let meaning = refusal::meaning_of(refusal);
-            Numbers {
-                refusal: meaning.number,
-                place,
-                length: told.length,
-            }
+    if unit_known(serial, port) {
+        if traces_fit(first, second) {
+            let unit = Unit {
+                serial,
+                port: (port % 256) as u8,
+                capacity: (first % 65536) as u32,
+            };
+            return Started {
+                after: fresh(unit),
+                outcome: Outcome::Done,
+            };
         }
+        return refused_start(Refusal::BadTraces);
     }
+    refused_start(Refusal::BadStart)
 }
 
 // The state and the queue as they may be, else refusal 11.
 pub fn allowed(m: Module) -> bool
     ensures { λ r. ⌜ r ≡ allowedModule m ⌝ }
 {
-    let state = m.state;
-    let queue = m.queue;
-    let unit = state.unit;
-    if state::allowed(state) {
-        return queue::keeps(queue, unit.port);
-    }
-    false
+    state::allowed(m.state) & queue::keeps(m.queue, m.state.unit.port)
 }
 
 // Refusals 11 and 9.
 pub fn guard(m: Module, first: usize, second: usize) -> Outcome
     ensures { λ r. ⌜ r ≡ guardOf m first second ⌝ }
 {
+    let capacity = m.state.unit.capacity as usize;
     if allowed(m) {
-        let state = m.state;
-        let unit = state.unit;
-        let capacity = unit.capacity as usize;
-        if first == capacity {
-            if second == capacity {
-                return Outcome::Done;
-            }
-            return Outcome::Refused(Refusal::BadTraces);
+        if (first == capacity) & (second == capacity) {
+            return Outcome::Done;
         }
         return Outcome::Refused(Refusal::BadTraces);
     }
@@ -177,6 +153,13 @@ pub fn too_long(m: Module, queue: Queue) -> Called
     }
 }
 
+// What a byte brings about on a module's port.
+pub fn fed(queue: Queue, unit: Unit, b: u8, mark: bool) -> Fed
+    ensures { λ r. ⌜ r ≡ fedOf queue (unit .port) b mark ⌝ }
+{
+    queue::feed(queue, unit.port, b, mark)
+}
+
 // How many bytes wait, at most 256.
 pub fn waiting(q: Queue) -> usize
     ensures { λ r. ⌜ (take r (q .bytes) ≡ waitingBytes q) × (r ≤ 256) ⌝ }
@@ -192,11 +175,27 @@ pub fn waiting(q: Queue) -> usize
 pub fn status_between(s: State) -> u8
     ensures { λ r. ⌜ r ≡ statusBetween s ⌝ }
 {
-    let moving = s.moving;
     let poll = Poll {
-        at_rest: storage::at_rest(moving.storage),
+        at_rest: storage::at_rest(s.moving.storage),
         idle: true,
         waiting: false,
     };
     status::status_byte(s.registers, s.enables, poll)
+}
+
+// The status byte between lines, as a serial poll reads it.
+pub fn poll(m: Module) -> Polled
+    ensures { λ r. ⌜ r ≡ pollOf m ⌝ }
+{
+    if allowed(m) {
+        let state = m.state;
+        return Polled {
+            status: status_between(state),
+            outcome: Outcome::Done,
+        };
+    }
+    Polled {
+        status: 0,
+        outcome: Outcome::Refused(Refusal::BadState),
+    }
 }

@@ -1,5 +1,4 @@
 // An operation: it writes its answer and gives the module after it.
-
 use calls::Call;
 use lockin::Module;
 use operations::Operation;
@@ -17,7 +16,7 @@ fn answer(
         Operation::Dump => dump::tell(m, one, two),
         Operation::Poll => calls::tell_poll(m),
         Operation::Check(capacity, len) => {
-            verdict::tell(script::check(capacity, terminal::first_of(bytes, len)))
+            verdict_text::tell(script::check(capacity, terminal::first_of(bytes, len)))
         }
         _ => calls::refuse(),
     }
@@ -62,9 +61,7 @@ fn perform_within(
     one: &mut [u32],
     two: &mut [u32],
 ) -> Module {
-    let state = m.state;
-    let unit = state.unit;
-    let slots = unit.capacity as usize;
+    let slots = m.state.unit.capacity as usize;
     if one.len() < slots {
         return calls::wrong(m);
     }
@@ -85,7 +82,7 @@ pub fn take_line(m: Module, line: &[u8], len: usize, one: &mut [u32], two: &mut 
     let mut bytes = io::large_buffer();
     let operation = operations::operation_of(&line[0..len], &mut bytes);
     if let Operation::Start(serial, port, first, second) = operation {
-        return calls::start(m, serial, port, first, second, one, two);
+        return calls::start(serial, port, first, second, one, two);
     }
     perform_within(m, operation, &bytes, one, two)
 }

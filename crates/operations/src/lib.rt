@@ -4,7 +4,7 @@ ghost use Prim.Native.Nat.{_<_};
 ghost use lib.ListN.{length};
 use event::Event;
 use terminal::Decoded;
-use terminal::Field;
+use terminal::Number;
 
 // The longest trace; the largest reply buffer, one that is enough for most, and what each of their bytes is before the call; the largest byte; how many
 // traces there are.
@@ -25,12 +25,9 @@ const WORD: usize = 8;
 
 const BYTE: usize = 2;
 
-// The names of the operations, each in so many bytes, and what the fields of each are, at most so many: a number n, a trace's length s, a room r, a byte
-// as a number b, an end mark m, a trace t, a byte in hex h, a word in hex w, or bytes in hex x.
-const NAMES: [u8; 96] =
-    *b"start   line    byte    pair    tick    trigger measuredraise   poke    dump    check   poll    ";
-
-const NAME: usize = 8;
+// The names of the operations, and what the fields of each are, at most so many: a number n, a trace's length s, a room r, a byte as a number b, an end
+// mark m, a trace t, a byte in hex h, a word in hex w, or bytes in hex x.
+const NAMES: [u8; 69] = *b"start line byte pair tick trigger measured raise poke dump check poll";
 
 const KINDS: [u8; 48] = *b"nnssxr  hmr ww          n   bb  tnw     nx      ";
 
@@ -78,30 +75,16 @@ pub enum Operation {
     Wrong,
 }
 
+// What a field says and where the next one starts, past the text's end behind the last.
+enum Field {
+    Value(u32, usize),
+    Wrong,
+}
+
 // The fields of an operation as numbers, bytes in hex by how many they are; and whether they are all right and the last one ends the text.
 struct Fields {
     values: [u32; FIELDS],
     right: bool,
-}
-
-// Whether a name in its bytes, spaces behind it, is this word.
-fn is_name(name: &[u8], word: &[u8]) -> bool {
-    let n = divide::span_of(name, b' ');
-    terminal::same(&name[0..n], word)
-}
-
-// The number of the operation with this name, past the last where there is none.
-fn number_of(word: &[u8]) -> usize {
-    let names = NAMES;
-    let mut i = 0;
-    while i < OPERATIONS {
-        let start = NAME * i;
-        if is_name(&names[start..start + NAME], word) {
-            return i;
-        }
-        i += 1;
-    }
-    i
 }
 
 // The largest number that a field of a kind can have.
@@ -116,29 +99,36 @@ fn most_of(kind: u8) -> u32 {
     }
 }
 
-// Bytes in hex, which are put at the start of a buffer.
-fn bytes_at(text: &[u8], start: usize, bytes: &mut [u8]) -> Field {
-    if text.len() < start {
-        return Field::Wrong;
-    }
-    let rest = &text[start..];
-    let n = divide::span_of(rest, b' ');
-    let Decoded::Bytes(len) = terminal::decode(&rest[0..n], bytes) else {
-        return Field::Wrong;
+// Bytes in hex, which are put at the start of a buffer: how many they are.
+fn bytes_of(part: &[u8], bytes: &mut [u8]) -> Number {
+    let Decoded::Bytes(len) = terminal::decode(part, bytes) else {
+        return Number::Wrong;
     };
     if LINE_LIMIT < len {
-        return Field::Wrong;
+        return Number::Wrong;
     }
-    Field::Value(len as u32, start + n + 1)
+    Number::Value(len as u32)
+}
+
+// What a field of a kind says.
+fn number_of(part: &[u8], kind: u8, bytes: &mut [u8]) -> Number {
+    match kind {
+        b'w' => terminal::word_of(part, WORD),
+        b'h' => terminal::word_of(part, BYTE),
+        b'x' => bytes_of(part, bytes),
+        _ => terminal::number_of(part, terminal::DECIMAL, most_of(kind)),
+    }
 }
 
 fn field_at(text: &[u8], start: usize, kind: u8, bytes: &mut [u8]) -> Field {
-    match kind {
-        b'w' => terminal::word_at(text, start, WORD),
-        b'h' => terminal::word_at(text, start, BYTE),
-        b'x' => bytes_at(text, start, bytes),
-        _ => terminal::number_at(text, start, most_of(kind)),
+    if text.len() < start {
+        return Field::Wrong;
     }
+    let end = divide::end_of(text, b' ', start);
+    let Number::Value(value) = number_of(&text[start..end], kind, bytes) else {
+        return Field::Wrong;
+    };
+    Field::Value(value, end + 1)
 }
 
 // The fields of the operation with a number, the first of which starts at a place.
@@ -201,8 +191,9 @@ fn made(number: usize, v: [u32; FIELDS]) -> Operation {
 
 // The operation that a text asks for. The bytes of a line or a script are put at the start of a buffer.
 pub fn operation_of(text: &[u8], bytes: &mut [u8]) -> Operation {
+    let names = NAMES;
     let n = divide::span_of(text, b' ');
-    let number = number_of(&text[0..n]);
+    let number = terminal::place_of(&names, &text[0..n]);
     if OPERATIONS <= number {
         return Operation::Wrong;
     }

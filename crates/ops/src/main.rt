@@ -7,16 +7,15 @@ fn main() {
     let mut one = operations::trace_buffer();
     let mut two = operations::trace_buffer();
     let mut latest = calls::refused();
-    let mut waiting = terminal::none_waiting();
+    let mut next = terminal::no_line();
     let mut turns = u64::MAX;
     while turns > 0 {
-        let next = terminal::next_line(waiting, &mut chunk, &mut line);
+        next = terminal::next_line(next, &mut chunk, &mut line);
         latest = operation::take_line(latest, &line, next.len, &mut one, &mut two);
         let ended = next.ended;
         if ended {} else {
             return;
         }
-        waiting = next.waiting;
         turns -= 1;
     }
 }

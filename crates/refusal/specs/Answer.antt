@@ -1,12 +1,15 @@
--- A line's answer, and which refusal drops the rest of a line: document 01, "Refusal numbers" and "Lines and commands".
+-- A line's answer, which refusal drops the rest of a line, and what is told: document 01, "Refusal numbers" and "Lines and commands".
 use Prim.Native.Nat.{ℕ}
 use mathlib.Core.Bool.{Bool, true, false}
+use Rattle.refusal.specs.Meaning.{meaningOf}
 use Rattle.refusal.specs.declared.Refusal.{Refusal}
 use Rattle.refusal.specs.declared.Refusal.the-variants.{Malformed, OutOfRange, NotAllowed, NoRoom, LongLine, BadEvent, NoReset, LongScriptLine, BadTraces, BadStart, BadState}
 use Rattle.refusal.specs.declared.Outcome.{Outcome}
 use Rattle.refusal.specs.declared.Outcome.the-variants as outcome
 use Rattle.refusal.specs.declared.Answer.{Answer}
 use Rattle.refusal.specs.declared.Answer.the-variants.{Passed, Refused}
+use Rattle.refusal.specs.declared.Told.{Told}
+use Rattle.refusal.specs.declared.Numbers.{Numbers}
 
 -- "A line's answer is its first refusal and place .., or 0."
 unfoldable pub firstOf : Answer → Outcome → ℕ → Answer
@@ -31,3 +34,14 @@ isNoRoom BadState = false
 unfoldable pub drops : Outcome → Bool
 drops outcome.Done = false
 drops (outcome.Refused r) = isNoRoom r
+
+abbrev pub toldOf : Answer → ℕ → Told
+toldOf a n = record { answer = a; length = n }
+
+-- the paper's numbers for an answer: refusal, place and length; "An answer 0 has place 0"
+unfoldable pub numbered : Answer → ℕ → Numbers
+numbered Passed n = record { refusal = 0; place = 0; length = n }
+numbered (Refused r place) n = record { refusal = meaningOf r .number; place = place; length = n }
+
+unfoldable pub numbersOf : Told → Numbers
+numbersOf t = numbered (t .answer) (t .length)

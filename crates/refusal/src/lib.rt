@@ -1,7 +1,7 @@
-// The refusals of document 01, with the number and the standard event bit of each, and a line's answer, its first refusal.
+// The refusals of document 01, with the number and the standard event bit of each; a line's answer, its first refusal, and what is told of it.
 ghost use mathlib.Core.Path.{_≡_};
 ghost use Rattle.refusal.specs.Meaning.{meaningOf, numberOf};
-ghost use Rattle.refusal.specs.Answer.{firstOf, isNoRoom, drops};
+ghost use Rattle.refusal.specs.Answer.{firstOf, isNoRoom, drops, numbersOf};
 
 // Why a command, a line, an event, a script or a state is not taken.
 pub enum Refusal {
@@ -39,6 +39,19 @@ pub enum Outcome {
 pub enum Answer {
     Passed,
     Refused(Refusal, u32),
+}
+
+// What is told of a line: its first refusal and place, if any, and the length of its reply.
+pub struct Told {
+    pub answer: Answer,
+    pub length: usize,
+}
+
+// The same in numbers: 0 where nothing is refused.
+pub struct Numbers {
+    pub refusal: u8,
+    pub place: u32,
+    pub length: usize,
 }
 
 // The number that the papers give a refusal, and the standard event bits that it sets.
@@ -145,5 +158,27 @@ pub fn drops(outcome: Outcome) -> bool
     match outcome {
         Outcome::Done => false,
         Outcome::Refused(refusal) => is_no_room(refusal),
+    }
+}
+
+// The numbers of what is told.
+pub fn numbers_of(told: Told) -> Numbers
+    ensures { λ r. ⌜ r ≡ numbersOf told ⌝ }
+{
+    let answer = told.answer;
+    match answer {
+        Answer::Passed => Numbers {
+            refusal: 0,
+            place: 0,
+            length: told.length,
+        },
+        Answer::Refused(refusal, place) => {
+            let meaning = meaning_of(refusal);
+            Numbers {
+                refusal: meaning.number,
+                place,
+                length: told.length,
+            }
+        }
     }
 }

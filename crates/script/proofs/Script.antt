@@ -11,12 +11,12 @@ use Rattle.divide.specs.Divide.{span}
 use Rattle.divide.proofs.Span.{span-le}
 use Rattle.refusal.specs.declared.Refusal.{Refusal}
 use Rattle.refusal.specs.declared.Refusal.the-variants.{NoReset, LongScriptLine}
-use Rattle.line.specs.Line.{textsOf}
+use Rattle.clean.specs.Texts.{textsOf}
 use Rattle.refusal.specs.declared.Answer.the-variants as answer
 use Rattle.two_courses.specs.Courses.{gapOf, startBoth}
 use Rattle.two_courses.specs.declared.Both.{Both}
 use Rattle.script.specs.declared.Swept.{Swept}
-use Rattle.script.specs.declared.Verdict.the-variants.{Fine, No}
+use Rattle.verdict.specs.declared.Verdict.the-variants.{Fine, No}
 use Rattle.script.specs.Check.{verdictOf, linesVerdict, linesOf}
 use Rattle.script.specs.Given.{Sweeps}
 use Rattle.script.proofs.Parts.{lines-first, lines-none}

@@ -11,7 +11,7 @@ use Rattle.refusal.specs.declared.Refusal.{Refusal}
 use Rattle.refusal.specs.declared.Outcome.the-variants as outcome
 use Rattle.command.specs.Parsed.{parsedOf}
 use Rattle.command.specs.declared.Parsed.{Parsed}
-use Rattle.line.specs.Line.{semicolon}
+use Rattle.clean.specs.Texts.{semicolon}
 use Rattle.refusal.specs.declared.Answer.{Answer}
 use Rattle.refusal.specs.declared.Answer.the-variants as answer
 use Rattle.two_courses.specs.Courses.{textRefusal, textAfter}

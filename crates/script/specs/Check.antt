@@ -9,13 +9,13 @@ use Rattle.refusal.specs.declared.Refusal.the-variants.{NoReset, LongScriptLine
 use Rattle.refusal.specs.declared.Outcome.{Outcome}
 use Rattle.refusal.specs.declared.Outcome.the-variants as outcome
 use Rattle.command.specs.Parsed.{parsedOf}
-use Rattle.line.specs.Line.{textsOf}
+use Rattle.clean.specs.Texts.{textsOf}
 use Rattle.refusal.specs.declared.Answer.{Answer}
 use Rattle.refusal.specs.declared.Answer.the-variants as answer
 use Rattle.two_courses.specs.Courses.{gapOf, textRefusal, textAfter, startBoth}
 use Rattle.two_courses.specs.declared.Both.{Both}
-use Rattle.script.specs.declared.Verdict.{Verdict}
-use Rattle.script.specs.declared.Verdict.the-variants.{Fine, No}
+use Rattle.verdict.specs.declared.Verdict.{Verdict}
+use Rattle.verdict.specs.declared.Verdict.the-variants.{Fine, No}
 
 -- a line's commands, from a place on: the first refusal, and what is carried past them
 unfoldable pub answerAt : Outcome → ℕ → Answer → Answer

@@ -3,7 +3,7 @@ ghost use mathlib.Core.Path.{_≡_};
 ghost use Prim.Native.Nat.{_≤_, _<_};
 ghost use lib.ListN.{length};
 ghost use Rattle.divide.specs.Divide.{parts};
-ghost use Rattle.line.specs.Line.{semicolon, textsOf};
+ghost use Rattle.clean.specs.Texts.{semicolon, textsOf};
 ghost use Rattle.two_courses.specs.Courses.{gapOf, startBoth};
 ghost use Rattle.script.specs.Check.{linesVerdict, linesOf, capacityFits, checkOf};
 ghost use Rattle.script.specs.Given.{Sweeps};
@@ -11,12 +11,7 @@ use refusal::Answer;
 use refusal::Outcome;
 use refusal::Refusal;
 use two_courses::Both;
-
-// What the check says: fine, or the line, the place and the refusal of the first command that some course refuses.
-pub enum Verdict {
-    Fine,
-    No(usize, u32, Refusal),
-}
+use verdict::Verdict;
 
 // A line's commands: the first refusal among them, and what is carried past them where there is none.
 pub struct Swept {

@@ -3,5 +3,5 @@ fn main() {
     let mut script = script_input::buffer();
     let input = script_input::read_all(&mut script);
     let bytes = terminal::first_of(&script, input.len);
-    verdict::tell(script_input::verdict_of(input.capacity, bytes));
+    verdict_text::tell(script_input::verdict_of(input.capacity, bytes));
 }

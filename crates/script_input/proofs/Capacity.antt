@@ -10,7 +10,7 @@ use Rattle.number.specs.Number.{isDigit, allDigits}
 use Rattle.number.specs.Value.{decimalAfter}
 use Rattle.script.specs.Check.{capacityFits, checkOf}
 use Rattle.script_input.specs.Input.{capacityOf, limitedCheck}
-use Rattle.script_input.specs.Taken.{capacityAfter}
+use Rattle.input_bytes.specs.Taken.{capacityAfter}
 
 -- the bytes of a line, one after the other
 unfoldable pub capacityAll : List ℕ → ℕ → ℕ

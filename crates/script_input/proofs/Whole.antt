@@ -13,10 +13,10 @@ use Rattle.divide.specs.Divide.{span, before, after}
 use Rattle.refusal.specs.declared.Refusal.the-variants.{LongScriptLine, BadTraces}
 use Rattle.two_courses.specs.Courses.{startBoth}
 use Rattle.script.specs.Check.{capacityFits, checkOf, linesVerdict, linesOf}
-use Rattle.script.specs.declared.Verdict.{Verdict}
-use Rattle.script.specs.declared.Verdict.the-variants.{No}
-use Rattle.script_input.specs.Input.{lineFeed, scriptLimit, capacityOf, limitedCheck, saidOf}
-use Rattle.script_input.specs.Taken.{Held, held, startInput, capacityAfter, lineOneAfter, scriptAfter, byteTaken, allTaken}
+use Rattle.verdict.specs.declared.Verdict.{Verdict}
+use Rattle.verdict.specs.declared.Verdict.the-variants.{No}
+use Rattle.script_input.specs.Input.{scriptLimit, capacityOf, limitedCheck, saidOf}
+use Rattle.input_bytes.specs.Taken.{lineFeed, Held, held, startInput, capacityAfter, lineOneAfter, scriptAfter, byteTaken, allTaken}
 use Rattle.script_input.specs.Whole.{saidFrom, Whole}
 use Rattle.script_input.proofs.Capacity.{capacityAll, as-told, check-same}
 

@@ -8,12 +8,10 @@ use Rattle.divide.specs.Divide.{before, after}
 use Rattle.number.specs.Number.{allDigits}
 use Rattle.number.specs.Value.{decimal}
 use Rattle.refusal.specs.declared.Refusal.the-variants.{LongScriptLine}
+use Rattle.input_bytes.specs.Taken.{lineFeed}
 use Rattle.script.specs.Check.{capacityFits, checkOf}
-use Rattle.script.specs.declared.Verdict.{Verdict}
-use Rattle.script.specs.declared.Verdict.the-variants.{No}
-
-abbrev pub lineFeed : ℕ
-lineFeed = 10
+use Rattle.verdict.specs.declared.Verdict.{Verdict}
+use Rattle.verdict.specs.declared.Verdict.the-variants.{No}
 
 -- "the capacity, digits only, on line one (anything else counts as 0)"
 unfoldable pub capacityOf : List ℕ → ℕ

@@ -1,4 +1,3 @@
--- What the programs over the script check read and say.
+-- What the programs over the script check say of their input.
 pub mod Input
-pub mod Taken
 pub mod Whole

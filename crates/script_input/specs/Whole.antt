@@ -3,9 +3,9 @@ use Prim.Native.Nat.{ℕ, _<_}
 use mathlib.Core.Path.{_≡_}
 use mathlib.Core.List.{List, _++_}
 use lib.ListN.{length, take}
-use Rattle.script.specs.declared.Verdict.{Verdict}
+use Rattle.verdict.specs.declared.Verdict.{Verdict}
 use Rattle.script_input.specs.Input.{scriptLimit, limitedCheck, saidOf}
-use Rattle.script_input.specs.Taken.{Held, held, startInput, allTaken}
+use Rattle.input_bytes.specs.Taken.{Held, held, startInput, allTaken}
 
 -- what the programs say of what is kept
 abbrev pub saidFrom : Held → Verdict

@@ -1,9 +1,9 @@
 // Standard input, read to its end.
 ghost use mathlib.Core.Path.{_≡_};
 ghost use lib.ListN.{length};
-use crate::Input;
 use crate::LIMIT;
-use crate::take;
+use input_bytes::Input;
+use input_bytes::take;
 use libc::STDIN_FILENO;
 
 // Room for a script, and for one byte more, which shows that there are more than the limit.

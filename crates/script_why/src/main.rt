@@ -7,7 +7,7 @@ mod operation;
 
 use course::Course;
 use refusal::Refusal;
-use script::Verdict;
+use verdict::Verdict;
 
 const SLOTS: usize = settings::CAPACITY_MOST as usize;
 
@@ -59,7 +59,7 @@ fn main() {
     let input = script_input::read_all(&mut script);
     let bytes = terminal::first_of(&script, input.len);
     let said = script_input::verdict_of(input.capacity, bytes);
-    verdict::tell(said);
+    verdict_text::tell(said);
     if let Verdict::No(line, place, refusal) = said {
         if let Refusal::NotAllowed = refusal {
             explain(input.capacity as usize, bytes, line, place);

@@ -7,16 +7,13 @@ use native.Mathlib.Nat.{le-of-suc-le-suc, not-suc-le-zero}
 use native.Mathlib.Omega.{arith}
 use lib.Dec.{T, leb, ltb, eqb, leb→le}
 use lib.ListN.{length, getD}
-use Rattle.settings.specs.Table.{table, rowOf, noRow, startOf, freq}
+use Rattle.settings.specs.Table.{table, rowOf, noRow, cells, startOf, freq}
 use Rattle.settings.specs.Frequency.{hertz, stepBy, frequencyStep}
 use Rattle.settings.specs.Setting.{stepOf}
 use Rattle.settings.specs.Allowed.{keeps, keepsIn}
 use Rattle.settings.specs.declared.Row.{Row}
 
--- a row as the code keeps it: its cells, the decimals and the start apart
-abbrev cells : Row → List ℕ
-cells r = r .bias ∷ r .low ∷ r .high ∷ r .least ∷ r .most ∷ r .step ∷ []
-
+-- a row made of what the code keeps: its cells, the decimals and the start
 abbrev decimalsOf : Row → ℕ
 decimalsOf r = r .decimals
 
@@ -106,13 +103,13 @@ pub keeps-in : (entry x : ℕ) → keepsIn entry (rowOf entry .least) (rowOf ent
 unfolding keepsIn keeps stepOf
 keeps-in entry x = refl
 
-pub keeps-cells : (e : List ℕ) (entry x : ℕ) → entry < 34 →
-    keepsIn entry (getD (getD (map cells table) entry e) 3 0) (getD (getD (map cells table) entry e) 4 0) (getD (getD (map cells table) entry e) 5 0) x ≡ keeps entry x
+pub keeps-cells : {l : List (List ℕ)} → l ≡ map cells table → (e : List ℕ) (entry x : ℕ) → entry < 34 →
+    keepsIn entry (getD (getD l entry e) 3 0) (getD (getD l entry e) 4 0) (getD (getD l entry e) 5 0) x ≡ keeps entry x
 unfolding table rowOf
-keeps-cells e entry x h =
+keeps-cells p e entry x h =
     let m = made-at table e noRow entry h in
-    ap (λ r. keepsIn entry (r .least) (r .most) (r .step) x) m ∙ keeps-in entry x
+    rw p (ap (λ r. keepsIn entry (r .least) (r .most) (r .step) x) m) ∙ keeps-in entry x
 
-pub step-cell : (e : List ℕ) (entry : ℕ) → entry < 34 → 1 ≤ getD (getD (map cells table) entry e) 5 0
+pub step-cell : {l : List (List ℕ)} → l ≡ map cells table → (e : List ℕ) (entry : ℕ) → entry < 34 → 1 ≤ getD (getD l entry e) 5 0
 unfolding table rowOf
-step-cell e entry h = rw (ap (λ r. r .step) (made-at table e noRow entry h)) (row-step entry)
+step-cell p e entry h = rw (p, ap (λ r. r .step) (made-at table e noRow entry h)) (row-step entry)

@@ -1,7 +1,8 @@
 // The settings of a lock-in module, by the table of document 01.
 ghost use mathlib.Core.Path.{_≡_};
+ghost use mathlib.Core.List.{map};
 ghost use Prim.Native.Nat.{_≤_};
-ghost use Rattle.settings.specs.Table.{rowOf, startSettings, turnedOf, behind, valueOf, withValue};
+ghost use Rattle.settings.specs.Table.{table, cells, rowOf, startSettings, turnedOf, behind, valueOf, withValue};
 ghost use Rattle.settings.specs.Frequency.{frequencyStep, inForce, detectionOf, withinLimit, above200, timeConstantStands, crossingOf, frequencyInRange};
 ghost use Rattle.settings.specs.Setting.{stepOf, rangeOf, turnedAt, valueTaken};
 ghost use Rattle.settings.specs.Allowed.{keepsIn, keeps, keepsAll, allowedOf};
@@ -107,19 +108,27 @@ impl Settings {
     }
 }
 
+// The table's numbers, row by row.
+fn cells() -> [[u32; 6]; ENTRIES]
+    ensures { λ r. ⌜ r ≡ map cells table ⌝ }
+{
+    table::TABLE
+}
+
 // The row of an entry.
 pub fn row_of(entry: usize) -> Row
     ensures { λ r. ⌜ r ≡ rowOf entry ⌝ }
 {
     if entry < ENTRIES {
-        let cells = table::TABLE[entry];
+        let table = cells();
+        let row = table[entry];
         return Row {
-            bias: cells[0],
-            low: cells[1],
-            high: cells[2],
-            least: cells[3],
-            most: cells[4],
-            step: cells[5],
+            bias: row[0],
+            low: row[1],
+            high: row[2],
+            least: row[3],
+            most: row[4],
+            step: row[5],
             decimals: table::DECIMALS[entry],
             start: table::START[entry],
         };
@@ -225,13 +234,7 @@ pub fn above_200(detection: u64) -> bool
 pub fn time_constant_stands(detection: u64, constant: u32) -> bool
     ensures { λ r. ⌜ r ≡ timeConstantStands detection constant ⌝ }
 {
-    if constant <= LONGEST_ABOVE {
-        return true;
-    }
-    if above_200(detection) {
-        return false;
-    }
-    true
+    (constant <= LONGEST_ABOVE) | !above_200(detection)
 }
 
 // What comes of a detection frequency that was old and is new.
@@ -240,22 +243,16 @@ pub fn crossing_of(old: u64, new: u64, constant: u32) -> Crossing
 {
     let was = above_200(old);
     let is = above_200(new);
-    if was {
-        if is {
-            return Crossing { constant, bits: 0 };
-        }
+    let lifts = !was & is;
+    let shortens = lifts & (LONGEST_ABOVE < constant);
+    if shortens {
         return Crossing {
-            constant,
-            bits: CROSSED, // downwards
+            constant: LONGEST_ABOVE,
+            bits: CROSSED + SHORTENED,
         };
     }
-    if is {
-        if LONGEST_ABOVE < constant {
-            return Crossing {
-                constant: LONGEST_ABOVE,
-                bits: CROSSED + SHORTENED,
-            };
-        }
+    let crosses = lifts | (!is & was);
+    if crosses {
         return Crossing {
             constant,
             bits: CROSSED,
@@ -268,10 +265,7 @@ pub fn crossing_of(old: u64, new: u64, constant: u32) -> Crossing
 pub fn frequency_in_range(frequency: u32) -> bool
     ensures { λ r. ⌜ r ≡ frequencyInRange frequency ⌝ }
 {
-    if frequency < FREQUENCY_LOW {
-        return false;
-    }
-    frequency <= FREQUENCY_HIGH
+    (FREQUENCY_LOW <= frequency) & (frequency <= FREQUENCY_HIGH)
 }
 
 // The step of an entry, by its value's whole units before rounding.
@@ -353,11 +347,11 @@ pub fn keeps_all(s: Settings) -> bool
     ensures { λ r. ⌜ r ≡ keepsAll s ⌝ }
 {
     let values = s.values;
-    let table = table::TABLE;
+    let table = cells();
     let mut entry = 0;
     while entry < ENTRIES {
-        let cells = table[entry];
-        let kept = keeps_in(entry, values[entry], cells[3], cells[4], cells[5]);
+        let row = table[entry];
+        let kept = keeps_in(entry, values[entry], row[3], row[4], row[5]);
         if kept {} else {
             return false;
         }
@@ -370,18 +364,7 @@ pub fn keeps_all(s: Settings) -> bool
 pub fn allowed(s: Settings, external: u32) -> bool
     ensures { λ r. ⌜ r ≡ allowedOf s external ⌝ }
 {
-    let kept = keeps_all(s);
-    if kept {
-        let inside = frequency_in_range(external);
-        if inside {
-            let frequency = detection(s, external);
-            let within = within_limit(frequency);
-            if within {
-                return time_constant_stands(frequency, value_of(s, OFLT));
-            }
-            return false;
-        }
-        return false;
-    }
-    false
+    let frequency = detection(s, external);
+    let stands = time_constant_stands(frequency, value_of(s, OFLT));
+    keeps_all(s) & (frequency_in_range(external) & (within_limit(frequency) & stands))
 }

@@ -172,52 +172,30 @@ pub fn store(s: State, p: Sampled, one: &mut [u32], two: &mut [u32])
 fn keeps_latest(p: Pair) -> bool
     ensures { λ r. ⌜ r ≡ keepsLatest p ⌝ }
 {
-    if point::legal(p.one) {
-        return point::legal(p.two);
-    }
-    false
+    point::legal(p.one) & point::legal(p.two)
 }
 
 fn keeps_unit(u: Unit) -> bool
     ensures { λ r. ⌜ r ≡ keepsUnit u ⌝ }
 {
-    if SERIAL_MOST < u.serial {
-        return false;
-    }
-    if GPIB < u.port {
-        return false;
-    }
-    if u.capacity < settings::CAPACITY_LEAST {
-        return false;
-    }
-    u.capacity <= settings::CAPACITY_MOST
+    let capacity = u.capacity;
+    let fits = (settings::CAPACITY_LEAST <= capacity) & (capacity <= settings::CAPACITY_MOST);
+    (u.serial <= SERIAL_MOST) & ((u.port <= GPIB) & fits)
 }
 
 // Whether storage, status and settings are those of an allowed state.
 fn keeps_parts(s: State) -> bool
     ensures { λ r. ⌜ r ≡ keepsParts s ⌝ }
 {
-    let moving = s.moving;
-    let unit = s.unit;
     let end = settings::value_of(s.settings, settings::SEND);
-    if settings::allowed(s.settings, moving.external) {
-        if storage::keeps(moving.storage, unit.capacity, end) {
-            return status::keeps(s.registers, s.enables);
-        }
-        return false;
-    }
-    false
+    let stored = storage::keeps(s.moving.storage, s.unit.capacity, end);
+    settings::allowed(s.settings, s.moving.external)
+        & (stored & status::keeps(s.registers, s.enables))
 }
 
 // Whether the state is inside the ranges, steps and limits: not refused by 11.
 pub fn allowed(s: State) -> bool
     ensures { λ r. ⌜ r ≡ allowedState s ⌝ }
 {
-    if keeps_parts(s) {
-        if keeps_latest(s.latest) {
-            return keeps_unit(s.unit);
-        }
-        return false;
-    }
-    false
+    keeps_parts(s) & (keeps_latest(s.latest) & keeps_unit(s.unit))
 }

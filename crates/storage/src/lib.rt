@@ -1,7 +1,7 @@
 // Storage of points: its phase, the points held and the slot that the next point goes to.
 ghost use mathlib.Core.Path.{_≡_};
 ghost use lib.ListN.{set};
-ghost use Rattle.storage.specs.Storage.{emptiedStorage, startedOf, pausedOf, isReset, isRunning, isDone, atRest, nextSlot, heldAfter, fullInOneShot, storedOf};
+ghost use Rattle.storage.specs.Storage.{number, isPaused, emptiedStorage, startedOf, pausedOf, isReset, isRunning, isDone, atRest, nextSlot, heldAfter, fullInOneShot, storedOf};
 ghost use Rattle.storage.specs.Storage.{tickedOf, readiedOf, triggeredOf, oldestOf, holdsOf, slotsKept, doneKept, resetKept, keepsOf};
 
 pub enum Phase {
@@ -54,41 +54,15 @@ pub fn emptied() -> Storage
     }
 }
 
-// STRT: runs it from reset or paused.
-pub fn started(s: Storage) -> Storage
-    ensures { λ r. ⌜ r ≡ startedOf s ⌝ }
+// The phases told apart by a number.
+fn number_of(phase: Phase) -> u8
+    ensures { λ r. ⌜ r ≡ number phase ⌝ }
 {
-    let phase = s.phase;
     match phase {
-        Phase::Reset => Storage {
-            phase: Phase::Running,
-            held: s.held,
-            next: s.next,
-        },
-        Phase::Running => s,
-        Phase::Paused => Storage {
-            phase: Phase::Running,
-            held: s.held,
-            next: s.next,
-        },
-        Phase::Done => s,
-    }
-}
-
-// PAUS: pauses a running one.
-pub fn paused(s: Storage) -> Storage
-    ensures { λ r. ⌜ r ≡ pausedOf s ⌝ }
-{
-    let phase = s.phase;
-    match phase {
-        Phase::Reset => s,
-        Phase::Running => Storage {
-            phase: Phase::Paused,
-            held: s.held,
-            next: s.next,
-        },
-        Phase::Paused => s,
-        Phase::Done => s,
+        Phase::Reset => 0,
+        Phase::Running => 1,
+        Phase::Paused => 2,
+        Phase::Done => 3,
     }
 }
 
@@ -96,46 +70,63 @@ pub fn is_reset(s: Storage) -> bool
     ensures { λ r. ⌜ r ≡ isReset s ⌝ }
 {
     let phase = s.phase;
-    match phase {
-        Phase::Reset => true,
-        Phase::Running => false,
-        Phase::Paused => false,
-        Phase::Done => false,
-    }
+    number_of(phase) == 0
 }
 
 pub fn is_running(s: Storage) -> bool
     ensures { λ r. ⌜ r ≡ isRunning s ⌝ }
 {
     let phase = s.phase;
-    match phase {
-        Phase::Reset => false,
-        Phase::Running => true,
-        Phase::Paused => false,
-        Phase::Done => false,
-    }
+    number_of(phase) == 1
+}
+
+fn is_paused(s: Storage) -> bool
+    ensures { λ r. ⌜ r ≡ isPaused s ⌝ }
+{
+    let phase = s.phase;
+    number_of(phase) == 2
 }
 
 fn is_done(s: Storage) -> bool
     ensures { λ r. ⌜ r ≡ isDone s ⌝ }
 {
     let phase = s.phase;
-    match phase {
-        Phase::Reset => false,
-        Phase::Running => false,
-        Phase::Paused => false,
-        Phase::Done => true,
+    number_of(phase) == 3
+}
+
+// STRT: runs it from reset or paused.
+pub fn started(s: Storage) -> Storage
+    ensures { λ r. ⌜ r ≡ startedOf s ⌝ }
+{
+    if is_reset(s) | is_paused(s) {
+        return Storage {
+            phase: Phase::Running,
+            held: s.held,
+            next: s.next,
+        };
     }
+    s
+}
+
+// PAUS: pauses a running one.
+pub fn paused(s: Storage) -> Storage
+    ensures { λ r. ⌜ r ≡ pausedOf s ⌝ }
+{
+    if is_running(s) {
+        return Storage {
+            phase: Phase::Paused,
+            held: s.held,
+            next: s.next,
+        };
+    }
+    s
 }
 
 // Whether storage is reset or done: status bit 0.
 pub fn at_rest(s: Storage) -> bool
     ensures { λ r. ⌜ r ≡ atRest s ⌝ }
 {
-    if is_reset(s) {
-        return true;
-    }
-    is_done(s)
+    is_reset(s) | is_done(s)
 }
 
 // The slot after a slot.
@@ -163,10 +154,7 @@ fn held_after(held: u32, capacity: u32) -> u32
 fn full_in_one_shot(held: u32, capacity: u32, end: u32) -> bool
     ensures { λ r. ⌜ r ≡ fullInOneShot held capacity end ⌝ }
 {
-    if end == ONE_SHOT {
-        return capacity <= held;
-    }
-    false
+    (end == ONE_SHOT) & (capacity <= held)
 }
 
 // Storage after one more point.
@@ -274,18 +262,8 @@ pub fn holds(s: Storage, bin: u32, count: u32) -> bool
 fn slots_kept(s: Storage, capacity: u32) -> bool
     ensures { λ r. ⌜ r ≡ slotsKept s capacity ⌝ }
 {
-    let held = s.held;
-    let next = s.next;
-    if capacity < held {
-        return false;
-    }
-    if capacity <= next {
-        return false;
-    }
-    if held < capacity {
-        return next == held;
-    }
-    true
+    let agrees = (capacity <= s.held) | (s.next == s.held);
+    (s.held <= capacity) & (s.next < capacity) & agrees
 }
 
 // Whether storage is done exactly if it is full in one shot, and then goes on at slot 0.
@@ -294,10 +272,7 @@ fn done_kept(s: Storage, capacity: u32, end: u32) -> bool
 {
     let done = is_done(s);
     if full_in_one_shot(s.held, capacity, end) {
-        if done {
-            return s.next == 0;
-        }
-        return false;
+        return done & (s.next == 0);
     }
     !done
 }
@@ -316,12 +291,7 @@ fn reset_kept(s: Storage) -> bool
 pub fn keeps(s: Storage, capacity: u32, end: u32) -> bool
     ensures { λ r. ⌜ r ≡ keepsOf s capacity end ⌝ }
 {
-    if slots_kept(s, capacity) {
-        if done_kept(s, capacity, end) {
-            return reset_kept(s);
-        }
-    }
-    false
+    slots_kept(s, capacity) & done_kept(s, capacity, end) & reset_kept(s)
 }
 
 // Stores a word in a slot of a trace, where it is there.

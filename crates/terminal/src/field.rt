@@ -1,15 +1,9 @@
-// The fields of a text, which single spaces divide: decimal numbers and words in hex.
+// What a part of a text says: a name, a decimal number, or a word in hex.
 ghost use Prim.Native.Nat.{_≤_};
 use crate::hex::digit_of;
 
-// A number and where the next field starts, past the text's end behind the last.
-pub enum Field {
-    Value(u32, usize),
-    Wrong,
-}
-
-// A number by itself.
-enum Number {
+// The number that a part stands for.
+pub enum Number {
     Value(u32),
     Wrong,
 }
@@ -18,9 +12,9 @@ enum Number {
 const LARGEST: u64 = u32::MAX as u64;
 
 // The bases of numbers.
-const DECIMAL: u8 = 10;
+pub const DECIMAL: u8 = 10;
 
-const HEX: u8 = 16;
+pub const HEX: u8 = 16;
 
 // Whether two texts are the same.
 pub fn same(a: &[u8], b: &[u8]) -> bool {
@@ -35,6 +29,21 @@ pub fn same(a: &[u8], b: &[u8]) -> bool {
         i += 1;
     }
     true
+}
+
+// The place of a word among words that single spaces divide, from 0: past the last where it is none of them.
+pub fn place_of(words: &[u8], word: &[u8]) -> usize {
+    let mut place = 0;
+    let mut start = 0;
+    while start < words.len() {
+        let end = divide::end_of(words, b' ', start);
+        if same(&words[start..end], word) {
+            return place;
+        }
+        start = end + 1;
+        place += 1;
+    }
+    place
 }
 
 // Digits moved by one place.
@@ -80,7 +89,7 @@ fn value_of(digits: &[u8], base: u8) -> u64
 }
 
 // A number of at least one digit and at most a largest value.
-fn number_of(digits: &[u8], base: u8, most: u32) -> Number {
+pub fn number_of(digits: &[u8], base: u8, most: u32) -> Number {
     if digits.len() == 0 {
         return Number::Wrong;
     }
@@ -91,31 +100,10 @@ fn number_of(digits: &[u8], base: u8, most: u32) -> Number {
     Number::Wrong
 }
 
-// A decimal number that is at most a largest value.
-pub fn number_at(text: &[u8], start: usize, most: u32) -> Field {
-    if text.len() < start {
-        return Field::Wrong;
-    }
-    let rest = &text[start..];
-    let n = divide::span_of(rest, b' ');
-    let Number::Value(value) = number_of(&rest[0..n], DECIMAL, most) else {
-        return Field::Wrong;
-    };
-    Field::Value(value, start + n + 1)
-}
-
 // A word in hex, with so many digits.
-pub fn word_at(text: &[u8], start: usize, digits: usize) -> Field {
-    if text.len() < start {
-        return Field::Wrong;
+pub fn word_of(digits: &[u8], count: usize) -> Number {
+    if digits.len() != count {
+        return Number::Wrong;
     }
-    let rest = &text[start..];
-    let n = divide::span_of(rest, b' ');
-    if n != digits {
-        return Field::Wrong;
-    }
-    let Number::Value(value) = number_of(&rest[0..n], HEX, u32::MAX) else {
-        return Field::Wrong;
-    };
-    Field::Value(value, start + n + 1)
+    number_of(digits, HEX, u32::MAX)
 }

@@ -9,6 +9,14 @@ pub fn first_of(bytes: &[u8], n: usize) -> &[u8] {
     &bytes[0..n]
 }
 
+// The bytes behind the first n, none where there are fewer.
+pub fn rest_of(bytes: &[u8], n: usize) -> &[u8] {
+    if bytes.len() < n {
+        return &bytes[0..0];
+    }
+    &bytes[n..]
+}
+
 // Writes the bytes that wait.
 pub fn flush(out: &[u8], len: usize) {
     io::write_all(STDOUT_FILENO, first_of(out, len));

@@ -1,6 +1,8 @@
 // The question `line`: the commands of a line, read without running them.
-use crate::output::put_next;
-use crate::output::put_text;
+use crate::output::tell;
+use crate::output::tell_byte;
+use crate::output::tell_next;
+use crate::output::tell_text;
 use command::Kind;
 use command::Parsed;
 use command::QueryArgument;
@@ -8,8 +10,6 @@ use command::SetArgument;
 use refusal::Refusal;
 use terminal::Decoded;
 use terminal::first_of;
-use terminal::put;
-use terminal::put_all;
 use text::Text;
 
 // The channel of a setting's first entry, counted from 1: none is 0.
@@ -23,123 +23,113 @@ fn channel_of(entry: usize) -> u32 {
     }
 }
 
-fn put_channel(out: &mut [u8], at: usize, entry: usize) -> usize {
+fn tell_channel(entry: usize) {
     let channel = channel_of(entry);
     if channel == 0 {
-        return at;
+        return;
     }
-    put_next(out, at, channel)
+    tell_next(channel);
 }
 
 // A setting's value in its units, a minus where it is below zero.
-fn put_setting(out: &mut [u8], at: usize, entry: usize, value: u32) -> usize {
+fn tell_setting(entry: usize, value: u32) {
     let row = settings::row_of(entry);
-    let end = put(out, at, b' ');
-    put_text(
-        out,
-        end,
-        text::push_value(Text::empty(), value, row.bias, 0),
-    )
+    tell_text(text::push_value(text::push(Text::empty(), b' '), value, row.bias, 0));
 }
 
-fn put_set(out: &mut [u8], at: usize, argument: SetArgument) -> usize {
+fn tell_set(argument: SetArgument) {
     match argument {
         SetArgument::Value(entry, value) => {
-            let end = put_channel(out, at, entry);
-            put_setting(out, end, entry, value)
+            tell_channel(entry);
+            tell_setting(entry, value);
         }
         SetArgument::Pair(entry, value, other) => {
-            let end = put_channel(out, at, entry);
-            let next = put_setting(out, end, entry, value);
-            let second = std::num::wrapping_add_usize(entry, 1);
-            put_setting(out, next, second, other)
+            tell_channel(entry);
+            tell_setting(entry, value);
+            tell_setting(settings::behind(entry), other);
         }
-        SetArgument::Enable(_, value) => put_next(out, at, value),
+        SetArgument::Enable(_, value) => tell_next(value),
         SetArgument::EnableBit(_, bit, value) => {
-            let end = put_next(out, at, bit);
-            put_next(out, end, value)
+            tell_next(bit);
+            tell_next(value);
         }
     }
 }
 
-fn put_query(out: &mut [u8], at: usize, argument: QueryArgument) -> usize {
+fn tell_query(argument: QueryArgument) {
     match argument {
-        QueryArgument::Value(entry) => put_channel(out, at, entry),
-        QueryArgument::Pair(entry) => put_channel(out, at, entry),
-        QueryArgument::EnableBit(_, bit) => put_next(out, at, bit),
-        QueryArgument::StatusBit(_, bit) => put_next(out, at, bit),
+        QueryArgument::Value(entry) | QueryArgument::Pair(entry) => tell_channel(entry),
+        QueryArgument::EnableBit(_, bit) | QueryArgument::StatusBit(_, bit) => tell_next(bit),
         QueryArgument::Trace(_, trace, bin, count) => {
-            let end = put_next(out, at, trace);
-            let next = put_next(out, end, bin);
-            put_next(out, next, count)
+            tell_next(trace);
+            tell_next(bin);
+            tell_next(count);
         }
-        _ => at,
+        _ => {}
     }
 }
 
-fn put_kind(out: &mut [u8], at: usize, kind: Kind) -> usize {
+// What stands behind a command's name.
+fn tell_mark(mark: u8) {
+    tell_byte(b' ');
+    tell_byte(mark);
+}
+
+fn tell_kind(kind: Kind) {
     match kind {
         Kind::Set(argument) => {
-            let end = put_all(out, at, b" =");
-            put_set(out, end, argument)
+            tell_mark(b'=');
+            tell_set(argument);
         }
         Kind::Query(argument) => {
-            let end = put_all(out, at, b" ?");
-            put_query(out, end, argument)
+            tell_mark(b'?');
+            tell_query(argument);
         }
-        Kind::Act(_) => put_all(out, at, b" ="),
+        Kind::Act(_) => tell_mark(b'='),
     }
 }
 
-fn put_refused(out: &mut [u8], at: usize, refusal: Refusal) -> usize {
+fn tell_refused(refusal: Refusal) {
     let meaning = refusal::meaning_of(refusal);
-    let end = put_all(out, at, b"refused");
-    put_next(out, end, meaning.number as u32)
+    tell(b"refused");
+    tell_next(meaning.number as u32);
 }
 
-// A command's name, the first four bytes of its text.
-fn put_name(out: &mut [u8], at: usize, text: &[u8]) -> usize {
-    if text.len() < 4 {
-        return at;
-    }
-    put_all(out, at, &text[0..4])
-}
-
-fn put_command(out: &mut [u8], at: usize, text: &[u8]) -> usize {
+// The answer for one command: its name is the first four bytes of its text.
+fn tell_command(text: &[u8]) {
     match command::parse(text) {
-        Parsed::Empty => put_all(out, at, b"empty"),
+        Parsed::Empty => tell(b"empty"),
         Parsed::Taken(command) => {
             let kind = command.kind;
-            let end = put_name(out, at, text);
-            put_kind(out, end, kind)
+            tell(first_of(text, 4));
+            tell_kind(kind);
         }
-        Parsed::Refused(refusal) => put_refused(out, at, refusal),
+        Parsed::Refused(refusal) => tell_refused(refusal),
     }
 }
 
 // The commands of a cleaned line, each behind the `;` that ends the one before.
-fn put_commands(out: &mut [u8], at: usize, text: &[u8]) -> usize {
-    let mut end = at;
+fn tell_commands(text: &[u8]) {
     let mut start = 0;
     loop {
         let rest = &text[start..];
         let n = divide::span_of(rest, b';');
-        end = put_command(out, end, &rest[0..n]);
+        tell_command(&rest[0..n]);
         if n == rest.len() {
-            return end;
+            return;
         }
-        end = put(out, end, b';');
+        tell_byte(b';');
         start += n + 1;
     }
 }
 
-// The answer for a line of at most 256 bytes in hex, `-` where it is empty: nothing where it is no such line.
-pub fn put_line(out: &mut [u8], at: usize, digits: &[u8]) -> usize {
+// The answer for a line of at most 256 bytes in hex, `-` where it is empty: `?` where it is no such line.
+pub fn tell_line(digits: &[u8]) {
     let mut bytes = [0u8; clean::LINE];
     let Decoded::Bytes(len) = terminal::decode(digits, &mut bytes) else {
-        return at;
+        return tell_byte(b'?');
     };
     let cleaned = clean::clean(first_of(&bytes, len));
-    let text = cleaned.bytes;
-    put_commands(out, at, first_of(&text, cleaned.len))
+    let line = cleaned.bytes;
+    tell_commands(first_of(&line, cleaned.len));
 }

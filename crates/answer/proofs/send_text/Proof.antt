@@ -21,7 +21,7 @@ same-length c = search needs
 
 returns : tie.Need-returns
 returns c =
-    let a = c .before .before .before .before .before .before .before .before .before .args in
+    let a = c .before .before .before .before .before .before .before .before .args in
     let e = says-ended (a .q) (a .s) (a .waiting) _ _ _ (c .before .before .before .before .before .before .text-of .ensures) (c .before .before .before .before .before .end-of .ensures) (c .before .before .before .before .push .ensures) in
     rw (← e) (c .before .before .send .ensures)
 

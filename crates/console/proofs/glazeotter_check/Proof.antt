@@ -1,7 +1,7 @@
 -- `console::glazeotter_check` meets its contract: the check, and the number of what it says. Assumes nothing.
 use mathlib.Core.Path.{ap, _∙_}
 use borrow.Author.Needs.{needs}
-use Rattle.console.specs.Number.{numberOf}
+use Rattle.verdict.specs.Number.{numberOf}
 use Rattle.console.proofs.glazeotter_check.Statement.{statement}
 use Rattle.console.proofs.glazeotter_check.Tie as tie
 

@@ -5,7 +5,7 @@ use native.Mathlib.Omega.{arith}
 use lib.ListN.{length}
 use borrow.Author.Needs.{needs}
 use Rattle.line.specs.Line.{lineOf}
-use Rattle.line.proofs.Cleaned.{all-cleaned}
+use Rattle.clean.proofs.Bound.{all-cleaned}
 use Rattle.line.proofs.run_line.Statement.{statement}
 use Rattle.line.proofs.run_line.Tie as tie
 

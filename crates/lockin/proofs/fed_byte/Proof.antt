@@ -5,8 +5,8 @@ use Rattle.lockin.specs.Calls.{fedByte}
 use Rattle.lockin.proofs.fed_byte.Statement.{statement}
 use Rattle.lockin.proofs.fed_byte.Tie as tie
 
-feed-requires : tie.Need-feed-requires
-feed-requires c κs = search needs
+fed-requires : tie.Need-fed-requires
+fed-requires c κs = search needs
 
 fed-call-requires : tie.Need-fed-call-requires
 fed-call-requires c κs = search needs
@@ -22,9 +22,9 @@ same-length-3 c = search needs
 
 returns : tie.Need-returns
 unfolding fedByte
-returns c = rw (sym (c .before .before .before .before .before .before .before .before .before .before .before .feed .ensures)) (c .before .before .before .before .before .before .fed-call .ensures)
+returns c = rw (sym (c .before .before .before .before .before .before .before .before .before .before .before .fed .ensures)) (c .before .before .before .before .before .before .fed-call .ensures)
 
 pub fed-byte-spec : {M : Type 1} → statement M
 fed-byte-spec =
     tie.close
-    (tie.spec feed-requires fed-call-requires same-length same-length-2 same-length-3 returns)
+    (tie.spec fed-requires fed-call-requires same-length same-length-2 same-length-3 returns)

@@ -1,20 +1,16 @@
 -- `module::unit_known` meets its contract. Assumes nothing.
-use borrow.Author.Tests.{lt-leb, le-leb}
+use mathlib.Core.Path.{refl}
 use borrow.Author.Needs.{needs}
 use Rattle.module.specs.Start.{unitKnown}
 use Rattle.module.proofs.unit_known.Statement.{statement}
 use Rattle.module.proofs.unit_known.Tie as tie
 
-returns : tie.Need-returns
-unfolding unitKnown
-returns c = simp (lt-leb _ _ (c .if1 .taken))
-
 cast-result : tie.Need-cast-result
 cast-result c = search needs
 
-returns-2 : tie.Need-returns-2
+returns : tie.Need-returns
 unfolding unitKnown
-returns-2 c = rw (le-leb _ _ (c .if1 .left))
+returns c = refl
 
 pub unit-known-spec : {M : Type 1} → statement M
-unit-known-spec = tie.close (tie.spec returns cast-result returns-2)
+unit-known-spec = tie.close (tie.spec cast-result returns)

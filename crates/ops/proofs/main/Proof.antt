@@ -6,10 +6,10 @@ use Rattle.ops.proofs.main.Statement.{statement}
 use Rattle.ops.proofs.main.Tie as tie
 
 abbrev Inv-loop : tie.InvT-loop
-Inv-loop chunk₀ line₀ one₀ two₀ latest₀ waiting₀ turns₀ chunk line one two latest waiting turns = (65536 ≡ length chunk) × (131072 ≡ length line) × (16384 ≡ length one) × (16384 ≡ length two)
+Inv-loop chunk₀ line₀ one₀ two₀ latest₀ next₀ turns₀ chunk line one two latest next turns = (65536 ≡ length chunk) × (131072 ≡ length line) × (16384 ≡ length one) × (16384 ≡ length two)
 
 abbrev μ-loop : tie.MeasureT-loop
-μ-loop chunk₀ line₀ one₀ two₀ latest₀ waiting₀ turns₀ chunk line one two latest waiting turns = turns
+μ-loop chunk₀ line₀ one₀ two₀ latest₀ next₀ turns₀ chunk line one two latest next turns = turns
 
 large-buffer-requires : tie.Need-large-buffer-requires Inv-loop μ-loop
 large-buffer-requires c κs = search needs
@@ -26,8 +26,8 @@ trace-buffer-requires-2 c κs = search needs
 refused-requires : tie.Need-refused-requires Inv-loop μ-loop
 refused-requires c κs = search needs
 
-none-waiting-requires : tie.Need-none-waiting-requires Inv-loop μ-loop
-none-waiting-requires c κs = search needs
+no-line-requires : tie.Need-no-line-requires Inv-loop μ-loop
+no-line-requires c κs = search needs
 
 loop-holds : tie.Need-loop-holds Inv-loop μ-loop
 loop-holds c = search needs
@@ -79,7 +79,7 @@ main-spec =
     trace-buffer-requires
     trace-buffer-requires-2
     refused-requires
-    none-waiting-requires
+    no-line-requires
     loop-holds
     slice-aggregate-next-line
     slice-aggregate-next-line-2

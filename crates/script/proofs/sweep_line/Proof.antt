@@ -4,7 +4,7 @@ use native.Mathlib.Nat.{sub-zero}
 use native.Mathlib.Omega.{arith}
 use lib.ListN.{length}
 use borrow.Author.Needs.{needs}
-use Rattle.line.proofs.Cleaned.{all-cleaned}
+use Rattle.clean.proofs.Bound.{all-cleaned}
 use Rattle.script.proofs.sweep_line.Statement.{statement}
 use Rattle.script.proofs.sweep_line.Tie as tie
 

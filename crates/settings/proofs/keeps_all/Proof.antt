@@ -5,7 +5,6 @@ use mathlib.Core.Bool.{true}
 use native.Mathlib.Omega.{arith}
 use borrow.Author.Needs.{needs}
 use lib.ListN.{getD}
-use Rattle.settings.specs.Table.{table}
 use Rattle.settings.specs.Allowed.{keeps, every, keepsAll}
 use Rattle.settings.proofs.Every.{every-more, every-fails}
 use Rattle.settings.proofs.Rows.{keeps-cells, step-cell}
@@ -18,15 +17,18 @@ Inv-loop values table entry₀ entry = (entry ≤ 34) × (every (λ e. keeps e (
 abbrev μ-loop : tie.MeasureT-loop
 μ-loop values table entry₀ entry = 34 - entry
 
+cells-requires : tie.Need-cells-requires Inv-loop μ-loop
+cells-requires c κs = search needs
+
 loop-holds : tie.Need-loop-holds Inv-loop μ-loop
 unfolding every
 loop-holds c = (omega arith, refl)
 
-mul-cells : tie.Need-mul-cells Inv-loop μ-loop
-mul-cells c = search needs
+mul-row : tie.Need-mul-row Inv-loop μ-loop
+mul-row c = search needs
 
-array-copy-out-cells : tie.Need-array-copy-out-cells Inv-loop μ-loop
-array-copy-out-cells c = search needs
+array-copy-out-row : tie.Need-array-copy-out-row Inv-loop μ-loop
+array-copy-out-row c = search needs
 
 mul-keeps-in : tie.Need-mul-keeps-in Inv-loop μ-loop
 mul-keeps-in c = search needs
@@ -44,12 +46,11 @@ array-read-keeps-in-4 : tie.Need-array-read-keeps-in-4 Inv-loop μ-loop
 array-read-keeps-in-4 c = search needs
 
 keeps-in-requires : tie.Need-keeps-in-requires Inv-loop μ-loop
-unfolding table
-keeps-in-requires c κs = step-cell _ (c .before .before .loop .entry) (c .before .loop-test .taken)
+keeps-in-requires c κs = step-cell (c .before .before .before .cells .ensures) _ (c .before .before .loop .entry) (c .before .loop-test .taken)
 
 returns : tie.Need-returns Inv-loop μ-loop
-unfolding keepsAll table
-returns c = sym (every-fails _ 34 (c .before .before .before .before .loop .entry) (c .before .before .before .loop-test .taken) (sym (c .before .keeps-in .ensures ∙ keeps-cells _ (c .before .before .before .before .loop .entry) _ (c .before .before .before .loop-test .taken)) ∙ c .if1 .left))
+unfolding keepsAll
+returns c = sym (every-fails _ 34 (c .before .before .before .before .loop .entry) (c .before .before .before .loop-test .taken) (sym (c .before .keeps-in .ensures ∙ keeps-cells (c .before .before .before .before .before .cells .ensures) _ (c .before .before .before .before .loop .entry) _ (c .before .before .before .loop-test .taken)) ∙ c .if1 .left))
 
 add-entry : tie.Need-add-entry Inv-loop μ-loop
 add-entry c = omega arith
@@ -58,8 +59,7 @@ loop-less : tie.Need-loop-less Inv-loop μ-loop
 loop-less c = omega arith
 
 loop-again : tie.Need-loop-again Inv-loop μ-loop
-unfolding table
-loop-again c = (omega arith, every-more _ (c .before .before .before .before .loop .entry) (c .before .before .before .before .loop .inv .1) (sym (c .before .keeps-in .ensures ∙ keeps-cells _ (c .before .before .before .before .loop .entry) _ (c .before .before .before .loop-test .taken)) ∙ c .if1 .taken))
+loop-again c = (omega arith, every-more _ (c .before .before .before .before .loop .entry) (c .before .before .before .before .loop .inv .1) (sym (c .before .keeps-in .ensures ∙ keeps-cells (c .before .before .before .before .before .cells .ensures) _ (c .before .before .before .before .loop .entry) _ (c .before .before .before .loop-test .taken)) ∙ c .if1 .taken))
 
 returns-2 : tie.Need-returns-2 Inv-loop μ-loop
 unfolding keepsAll
@@ -71,9 +71,10 @@ keeps-all-spec =
     (tie.spec
     Inv-loop
     μ-loop
+    cells-requires
     loop-holds
-    mul-cells
-    array-copy-out-cells
+    mul-row
+    array-copy-out-row
     mul-keeps-in
     array-read-keeps-in
     array-read-keeps-in-2

@@ -1,4 +1,4 @@
--- `settings::row_of` meets its contract: the constants compute to the table's. Assumes nothing.
+-- `settings::row_of` meets its contract: the constants and the cells are the table's. Assumes nothing.
 use mathlib.Core.Path.{sym}
 use lib.ListN.{List·getD-eq-default}
 use borrow.Author.Needs.{needs}
@@ -7,42 +7,45 @@ use Rattle.settings.proofs.Rows.{made-at}
 use Rattle.settings.proofs.row_of.Statement.{statement}
 use Rattle.settings.proofs.row_of.Tie as tie
 
-mul-cells : tie.Need-mul-cells
-mul-cells c = search needs
+cells-requires : tie.Need-cells-requires
+cells-requires c κs = search needs
 
-array-copy-out-cells : tie.Need-array-copy-out-cells
-array-copy-out-cells c = search needs
+mul-row : tie.Need-mul-row
+mul-row c = search needs
 
-array-read-t45 : tie.Need-array-read-t45
-array-read-t45 c = search needs
+array-copy-out-row : tie.Need-array-copy-out-row
+array-copy-out-row c = search needs
 
-array-read-t48 : tie.Need-array-read-t48
-array-read-t48 c = search needs
+array-read-t12 : tie.Need-array-read-t12
+array-read-t12 c = search needs
 
-array-read-t51 : tie.Need-array-read-t51
-array-read-t51 c = search needs
+array-read-t15 : tie.Need-array-read-t15
+array-read-t15 c = search needs
 
-array-read-t54 : tie.Need-array-read-t54
-array-read-t54 c = search needs
+array-read-t18 : tie.Need-array-read-t18
+array-read-t18 c = search needs
 
-array-read-t57 : tie.Need-array-read-t57
-array-read-t57 c = search needs
+array-read-t21 : tie.Need-array-read-t21
+array-read-t21 c = search needs
 
-array-read-t60 : tie.Need-array-read-t60
-array-read-t60 c = search needs
+array-read-t24 : tie.Need-array-read-t24
+array-read-t24 c = search needs
 
-array-read-t64 : tie.Need-array-read-t64
-array-read-t64 c = search needs
+array-read-t27 : tie.Need-array-read-t27
+array-read-t27 c = search needs
 
-mul-t39 : tie.Need-mul-t39
-mul-t39 c = search needs
+array-read-t31 : tie.Need-array-read-t31
+array-read-t31 c = search needs
 
-array-read-t68 : tie.Need-array-read-t68
-array-read-t68 c = search needs
+mul-t6 : tie.Need-mul-t6
+mul-t6 c = search needs
+
+array-read-t35 : tie.Need-array-read-t35
+array-read-t35 c = search needs
 
 returns : tie.Need-returns
 unfolding table rowOf
-returns c = made-at table _ noRow (c .before .before .args .entry) (c .before .if1 .taken)
+returns c = rw (c .before .cells .ensures) (made-at table _ noRow (c .before .before .before .args .entry) (c .before .before .if1 .taken))
 
 returns-2 : tie.Need-returns-2
 unfolding table rowOf
@@ -52,16 +55,17 @@ pub row-of-spec : {M : Type 1} → statement M
 row-of-spec =
     tie.close
     (tie.spec
-    mul-cells
-    array-copy-out-cells
-    array-read-t45
-    array-read-t48
-    array-read-t51
-    array-read-t54
-    array-read-t57
-    array-read-t60
-    array-read-t64
-    mul-t39
-    array-read-t68
+    cells-requires
+    mul-row
+    array-copy-out-row
+    array-read-t12
+    array-read-t15
+    array-read-t18
+    array-read-t21
+    array-read-t24
+    array-read-t27
+    array-read-t31
+    mul-t6
+    array-read-t35
     returns
     returns-2)

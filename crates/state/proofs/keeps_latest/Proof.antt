@@ -1,5 +1,4 @@
 -- `state::keeps_latest` meets its contract. Assumes nothing.
-use mathlib.Core.Path.{sym, _∙_}
 use borrow.Author.Needs.{needs}
 use Rattle.state.specs.Allowed.{keepsLatest}
 use Rattle.state.proofs.keeps_latest.Statement.{statement}
@@ -13,11 +12,7 @@ legal-requires-2 c κs = search needs
 
 returns : tie.Need-returns
 unfolding keepsLatest
-returns c = simp (c .legal2 .ensures, sym (c .before .before .legal .ensures) ∙ c .before .if1 .taken)
-
-returns-2 : tie.Need-returns-2
-unfolding keepsLatest
-returns-2 c = simp (sym (c .before .legal .ensures) ∙ c .if1 .left)
+returns c = rw (c .before .legal .ensures, c .legal2 .ensures)
 
 pub keeps-latest-spec : {M : Type 1} → statement M
-keeps-latest-spec = tie.close (tie.spec legal-requires legal-requires-2 returns returns-2)
+keeps-latest-spec = tie.close (tie.spec legal-requires legal-requires-2 returns)

@@ -1,6 +1,6 @@
 -- `storage::done_kept` meets its contract. Assumes nothing.
-use borrow.Author.Needs.{needs}
 use mathlib.Core.Path.{sym, _∙_}
+use borrow.Author.Needs.{needs}
 use Rattle.storage.specs.Storage.{doneKept}
 use Rattle.storage.proofs.done_kept.Statement.{statement}
 use Rattle.storage.proofs.done_kept.Tie as tie
@@ -13,16 +13,11 @@ full-in-one-shot-requires c κs = search needs
 
 returns : tie.Need-returns
 unfolding doneKept
-returns c = rw (sym (c .before .before .before .full-in-one-shot .ensures) ∙ c .before .before .if1 .taken, sym (c .before .before .before .before .is-done .ensures) ∙ c .before .if2 .taken)
+returns c = rw (c .before .before .before .is-done .ensures, sym (c .before .before .full-in-one-shot .ensures) ∙ c .before .if1 .taken)
 
 returns-2 : tie.Need-returns-2
 unfolding doneKept
-returns-2 c = rw (sym (c .before .before .full-in-one-shot .ensures) ∙ c .before .if1 .taken, sym (c .before .before .before .is-done .ensures) ∙ c .if2 .left)
-
-returns-3 : tie.Need-returns-3
-unfolding doneKept
-returns-3 c = rw (sym (c .before .full-in-one-shot .ensures) ∙ c .if1 .left, c .before .before .is-done .ensures)
+returns-2 c = rw (c .before .before .is-done .ensures, sym (c .before .full-in-one-shot .ensures) ∙ c .if1 .left)
 
 pub done-kept-spec : {M : Type 1} → statement M
-done-kept-spec =
-    tie.close (tie.spec is-done-requires full-in-one-shot-requires returns returns-2 returns-3)
+done-kept-spec = tie.close (tie.spec is-done-requires full-in-one-shot-requires returns returns-2)

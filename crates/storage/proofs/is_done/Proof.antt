@@ -1,38 +1,15 @@
--- `storage::is_done` meets its contract, phase by phase. Assumes nothing.
+-- `storage::is_done` meets its contract. Assumes nothing.
 use borrow.Author.Needs.{needs}
 use Rattle.storage.specs.Storage.{isDone}
 use Rattle.storage.proofs.is_done.Statement.{statement}
 use Rattle.storage.proofs.is_done.Tie as tie
 
-enum-told : tie.Need-enum-told
-enum-told c = search needs
-
-enum-told-2 : tie.Need-enum-told-2
-enum-told-2 c = search needs
-
-enum-told-3 : tie.Need-enum-told-3
-enum-told-3 c = search needs
-
-enum-told-4 : tie.Need-enum-told-4
-enum-told-4 c = search needs
+number-of-requires : tie.Need-number-of-requires
+number-of-requires c κs = search needs
 
 returns : tie.Need-returns
 unfolding isDone
-returns c = rw (c .enum-told .given .1)
-
-returns-2 : tie.Need-returns-2
-unfolding isDone
-returns-2 c = rw (c .enum-told2 .given .1)
-
-returns-3 : tie.Need-returns-3
-unfolding isDone
-returns-3 c = rw (c .enum-told3 .given .1)
-
-returns-4 : tie.Need-returns-4
-unfolding isDone
-returns-4 c = rw (c .enum-told4 .given .1)
+returns c = rw (c .number-of .ensures)
 
 pub is-done-spec : {M : Type 1} → statement M
-is-done-spec =
-    tie.close
-    (tie.spec enum-told enum-told-2 enum-told-3 enum-told-4 returns returns-2 returns-3 returns-4)
+is-done-spec = tie.close (tie.spec number-of-requires returns)

@@ -1,38 +1,15 @@
--- `storage::is_reset` meets its contract, phase by phase. Assumes nothing.
+-- `storage::is_reset` meets its contract. Assumes nothing.
 use borrow.Author.Needs.{needs}
 use Rattle.storage.specs.Storage.{isReset}
 use Rattle.storage.proofs.is_reset.Statement.{statement}
 use Rattle.storage.proofs.is_reset.Tie as tie
 
-enum-told : tie.Need-enum-told
-enum-told c = search needs
-
-enum-told-2 : tie.Need-enum-told-2
-enum-told-2 c = search needs
-
-enum-told-3 : tie.Need-enum-told-3
-enum-told-3 c = search needs
-
-enum-told-4 : tie.Need-enum-told-4
-enum-told-4 c = search needs
+number-of-requires : tie.Need-number-of-requires
+number-of-requires c κs = search needs
 
 returns : tie.Need-returns
 unfolding isReset
-returns c = rw (c .enum-told .given .1)
-
-returns-2 : tie.Need-returns-2
-unfolding isReset
-returns-2 c = rw (c .enum-told2 .given .1)
-
-returns-3 : tie.Need-returns-3
-unfolding isReset
-returns-3 c = rw (c .enum-told3 .given .1)
-
-returns-4 : tie.Need-returns-4
-unfolding isReset
-returns-4 c = rw (c .enum-told4 .given .1)
+returns c = rw (c .number-of .ensures)
 
 pub is-reset-spec : {M : Type 1} → statement M
-is-reset-spec =
-    tie.close
-    (tie.spec enum-told enum-told-2 enum-told-3 enum-told-4 returns returns-2 returns-3 returns-4)
+is-reset-spec = tie.close (tie.spec number-of-requires returns)

@@ -1,38 +1,20 @@
--- `storage::paused` meets its contract, phase by phase. Assumes nothing.
+-- `storage::paused` meets its contract. Assumes nothing.
+use mathlib.Core.Path.{sym, _∙_}
 use borrow.Author.Needs.{needs}
-use Rattle.storage.specs.Storage.{isRunning, pausedOf}
+use Rattle.storage.specs.Storage.{pausedOf}
 use Rattle.storage.proofs.paused.Statement.{statement}
 use Rattle.storage.proofs.paused.Tie as tie
 
-enum-told : tie.Need-enum-told
-enum-told c = search needs
-
-enum-told-2 : tie.Need-enum-told-2
-enum-told-2 c = search needs
-
-enum-told-3 : tie.Need-enum-told-3
-enum-told-3 c = search needs
-
-enum-told-4 : tie.Need-enum-told-4
-enum-told-4 c = search needs
+is-running-requires : tie.Need-is-running-requires
+is-running-requires c κs = search needs
 
 returns : tie.Need-returns
-unfolding isRunning pausedOf
-returns c = rw (c .enum-told .given .1)
+unfolding pausedOf
+returns c = rw (sym (c .before .is-running .ensures) ∙ c .if1 .taken)
 
 returns-2 : tie.Need-returns-2
-unfolding isRunning pausedOf
-returns-2 c = rw (c .enum-told2 .given .1)
-
-returns-3 : tie.Need-returns-3
-unfolding isRunning pausedOf
-returns-3 c = rw (c .enum-told3 .given .1)
-
-returns-4 : tie.Need-returns-4
-unfolding isRunning pausedOf
-returns-4 c = rw (c .enum-told4 .given .1)
+unfolding pausedOf
+returns-2 c = rw (sym (c .before .is-running .ensures) ∙ c .if1 .left)
 
 pub paused-spec : {M : Type 1} → statement M
-paused-spec =
-    tie.close
-    (tie.spec enum-told enum-told-2 enum-told-3 enum-told-4 returns returns-2 returns-3 returns-4)
+paused-spec = tie.close (tie.spec is-running-requires returns returns-2)

@@ -1,38 +1,22 @@
--- `storage::started` meets its contract, phase by phase. Assumes nothing.
+-- `storage::started` meets its contract. Assumes nothing.
 use borrow.Author.Needs.{needs}
-use Rattle.storage.specs.Storage.{isReset, isPaused, startedOf}
+use Rattle.storage.specs.Storage.{startedOf}
 use Rattle.storage.proofs.started.Statement.{statement}
 use Rattle.storage.proofs.started.Tie as tie
 
-enum-told : tie.Need-enum-told
-enum-told c = search needs
+is-reset-requires : tie.Need-is-reset-requires
+is-reset-requires c κs = search needs
 
-enum-told-2 : tie.Need-enum-told-2
-enum-told-2 c = search needs
-
-enum-told-3 : tie.Need-enum-told-3
-enum-told-3 c = search needs
-
-enum-told-4 : tie.Need-enum-told-4
-enum-told-4 c = search needs
+is-paused-requires : tie.Need-is-paused-requires
+is-paused-requires c κs = search needs
 
 returns : tie.Need-returns
-unfolding isReset isPaused startedOf
-returns c = rw (c .enum-told .given .1)
+unfolding startedOf
+returns c = let h = rw (c .before .before .is-reset .ensures, c .before .is-paused .ensures) at (c .if1 .taken) in rw h
 
 returns-2 : tie.Need-returns-2
-unfolding isReset isPaused startedOf
-returns-2 c = rw (c .enum-told2 .given .1)
-
-returns-3 : tie.Need-returns-3
-unfolding isReset isPaused startedOf
-returns-3 c = rw (c .enum-told3 .given .1)
-
-returns-4 : tie.Need-returns-4
-unfolding isReset isPaused startedOf
-returns-4 c = rw (c .enum-told4 .given .1)
+unfolding startedOf
+returns-2 c = let h = rw (c .before .before .is-reset .ensures, c .before .is-paused .ensures) at (c .if1 .left) in rw h
 
 pub started-spec : {M : Type 1} → statement M
-started-spec =
-    tie.close
-    (tie.spec enum-told enum-told-2 enum-told-3 enum-told-4 returns returns-2 returns-3 returns-4)
+started-spec = tie.close (tie.spec is-reset-requires is-paused-requires returns returns-2)

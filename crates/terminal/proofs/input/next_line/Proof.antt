@@ -6,10 +6,10 @@ use Rattle.terminal.proofs.input.next_line.Statement.{statement}
 use Rattle.terminal.proofs.input.next_line.Tie as tie
 
 abbrev Inv-loop : tie.InvT-loop
-Inv-loop chunk₀ line₀ latest₀ turns₀ chunk line latest turns = (length chunk ≡ length chunk₀) × (length line ≡ length line₀)
+Inv-loop chunk₀ line₀ next₀ turns₀ chunk line next turns = (length chunk ≡ length chunk₀) × (length line ≡ length line₀)
 
 abbrev μ-loop : tie.MeasureT-loop
-μ-loop chunk₀ line₀ latest₀ turns₀ chunk line latest turns = turns
+μ-loop chunk₀ line₀ next₀ turns₀ chunk line next turns = turns
 
 loop-holds : tie.Need-loop-holds Inv-loop μ-loop
 loop-holds c = search needs

@@ -1,0 +1,12 @@
+-- A line's bytes as its commands' texts: document 01, "Lines and commands".
+use Prim.Native.Nat.{ℕ}
+use mathlib.Core.List.{List}
+use Rattle.divide.specs.Divide.{parts}
+use Rattle.clean.specs.Clean.{cleaned}
+
+-- "Commands are divided by ";""
+abbrev pub semicolon : ℕ
+semicolon = 59
+
+abbrev pub textsOf : List ℕ → List (List ℕ)
+textsOf line = parts semicolon (cleaned line)

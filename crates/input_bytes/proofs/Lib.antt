@@ -1,0 +1,2 @@
+-- Laws on the input, byte by byte.
+pub mod Bytes

@@ -1,0 +1,71 @@
+-- `reading::zero_from` meets its contract: what is left is all 0 where the whole is. Assumes nothing.
+use Prim.Native.Nat.{_-_}
+use mathlib.Core.Path.{_≡_, refl, sym, _∙_}
+use mathlib.Core.List.{_++_}
+use native.Mathlib.Omega.{arith}
+use lib.ListN.{length-append, drop}
+use Rattle.reading.specs.Steps.{allZero}
+use Rattle.reading.proofs.Scan.{zeros-stop, zeros-more, zeros-end}
+use Rattle.reading.proofs.zero_from.Statement.{statement}
+use Rattle.reading.proofs.zero_from.Tie as tie
+
+abbrev Inv-loop : tie.InvT-loop
+Inv-loop front back from n place₀ place = allZero (drop from (front ++ back)) ≡ allZero (drop place (front ++ back))
+
+abbrev μ-loop : tie.MeasureT-loop
+μ-loop front back from n place₀ place = n - place
+
+add-n : tie.Need-add-n Inv-loop μ-loop
+add-n c = omega arith
+
+loop-holds : tie.Need-loop-holds Inv-loop μ-loop
+loop-holds c = refl
+
+digit-at-requires : tie.Need-digit-at-requires Inv-loop μ-loop
+digit-at-requires c κs = tt
+
+add-place : tie.Need-add-place Inv-loop μ-loop
+add-place c = omega arith
+
+loop-less : tie.Need-loop-less Inv-loop μ-loop
+loop-less c = omega arith
+
+loop-again : tie.Need-loop-again Inv-loop μ-loop
+loop-again c =
+    let a = c .before .before .before .before .before .before .args in
+    c .before .before .before .loop .inv
+    ∙ zeros-more (a .front .now ++ a .back .now) (c .before .before .before .loop .place)
+    (omega (arith, c .before .before .loop-test .taken, length-append (a .front .now) (a .back .now)))
+    (sym (c .before .digit-at .ensures) ∙ c .if1 .taken)
+
+returns : tie.Need-returns Inv-loop μ-loop
+returns c =
+    let a = c .before .before .before .before .before .before .args in
+    sym
+    (c .before .before .before .loop .inv
+    ∙ zeros-stop (a .front .now ++ a .back .now) (c .before .before .before .loop .place)
+    (omega (arith, c .before .before .loop-test .taken, length-append (a .front .now) (a .back .now)))
+    (λ e. c .if1 .left (c .before .digit-at .ensures ∙ e)))
+
+returns-2 : tie.Need-returns-2 Inv-loop μ-loop
+returns-2 c =
+    let a = c .before .before .before .before .args in
+    sym
+    (c .before .loop .inv
+    ∙ zeros-end (a .front .now ++ a .back .now) (c .before .loop .place)
+    (omega (arith, c .loop-test .left, length-append (a .front .now) (a .back .now))))
+
+pub zero-from-spec : {M : Type 1} → statement M
+zero-from-spec =
+    tie.close
+    (tie.spec
+    Inv-loop
+    μ-loop
+    add-n
+    loop-holds
+    digit-at-requires
+    add-place
+    loop-less
+    loop-again
+    returns
+    returns-2)

@@ -1,0 +1,2 @@
+-- What the steps of reading a number give.
+pub mod Steps

@@ -1,0 +1,78 @@
+-- What the steps of reading a number give, one definition for each function inside the crate.
+use Prim.Native.Nat.{ℕ, zero, suc, _+_, _-_, _*_, _^_, _≤_}
+use mathlib.Core.Bool.{Bool, true, cond, _&&_}
+use mathlib.Core.List.{List, [], _∷_, _++_}
+use lib.Dec.{leb, eqb}
+use lib.ListN.{length, getD}
+use Rattle.divide.specs.Divide.{before, after}
+use Rattle.number.specs.Number.{point, letterE, allDigits, digitLimit, isExponent, hasExponent}
+use Rattle.number.specs.Value.{decimal, Exact, up, down}
+use Rattle.number.specs.Quantity.{quantityOf}
+use Rattle.number.specs.declared.Reading.{Reading}
+use Rattle.number.specs.declared.Reading.the-variants.{Number, NotNumber}
+use Rattle.reading.specs.declared.Short.{Short}
+use Rattle.reading.specs.declared.Short.the-variants.{Of, Long}
+use Rattle.reading.specs.declared.Exponent.{Exponent}
+use Rattle.reading.specs.declared.Exponent.the-variants.{Power, Wrong}
+
+-- the digit at a place, 0 past the last one
+abbrev pub digit : List ℕ → ℕ → ℕ
+digit ds k = getD ds k 48 - 48
+
+-- the number that n digits from the place k on make
+unfoldable pub places : List ℕ → ℕ → ℕ → ℕ
+places ds k zero = 0
+places ds k (suc n) = places ds k n * 10 + digit ds (k + n)
+
+unfoldable pub allZero : List ℕ → Bool
+allZero [] = true
+allZero (d ∷ ds) = eqb d 48 && allZero ds
+
+-- one or two digits as a number
+unfoldable pub shortOf : List ℕ → Short
+shortOf t = cond (leb 1 (length t) && (leb (length t) 2 && allDigits t)) (Of (decimal t)) Long
+
+-- the places by which the text x behind the E moves the point
+unfoldable pub exponentOf : List ℕ → Exponent
+exponentOf x = cond (isExponent x) (Power (up x) (down x)) Wrong
+
+abbrev pub raisedBy : Short → Exponent
+raisedBy (Of n) = Power n 0
+raisedBy Long = Wrong
+
+abbrev pub loweredBy : Short → Exponent
+loweredBy (Of n) = Power 0 n
+loweredBy Long = Wrong
+
+-- at most 99
+abbrev pub TwoDigits : Short → Type 0
+TwoDigits (Of n) = n ≤ 99
+TwoDigits Long = Unit
+
+abbrev pub Bounded : Exponent → Type 0
+Bounded (Power u d) = (u ≤ 99) × (d ≤ 99)
+Bounded Wrong = Unit
+
+-- a number whose digits are front and back of the point, moved up and down by places
+abbrev pub moved : Bool → List ℕ → List ℕ → ℕ → ℕ → Exact
+moved negative front back up down =
+    record { negative = negative; over = decimal (front ++ back) * 10 ^ up; under = 10 ^ (length back + down) }
+
+unfoldable pub digitsOf : Bool → List ℕ → List ℕ → ℕ → ℕ → Reading
+digitsOf negative front back up down =
+    cond (leb 1 (length (front ++ back)) && (leb (length (front ++ back)) digitLimit && allDigits (front ++ back)))
+    (Number (quantityOf (moved negative front back up down)))
+    NotNumber
+
+unfoldable pub mantissaOf : Bool → List ℕ → ℕ → ℕ → Reading
+mantissaOf negative m up down = digitsOf negative (before point m) (after point m) up down
+
+unfoldable pub withExponent : Bool → List ℕ → ℕ → Exponent → Reading
+withExponent negative m decimals (Power up down) = mantissaOf negative m (decimals + up) down
+withExponent negative m decimals Wrong = NotNumber
+
+unfoldable pub unsignedOf : Bool → List ℕ → ℕ → Reading
+unsignedOf negative u decimals =
+    cond (hasExponent u)
+    (withExponent negative (before letterE u) decimals (exponentOf (after letterE u)))
+    (mantissaOf negative u decimals 0)

@@ -1,0 +1,2 @@
+-- Laws on the texts of replies.
+pub mod Texts

@@ -1,0 +1,18 @@
+-- `reply_text::plain_text` meets its contract: a plain number takes 10 bytes at most. Assumes nothing.
+use native.Mathlib.Omega.{arith}
+use Rattle.reply_text.proofs.Texts.{plain-short, says-all}
+use borrow.Author.Needs.{needs}
+use Rattle.reply_text.proofs.plain_text.Statement.{statement}
+use Rattle.reply_text.proofs.plain_text.Tie as tie
+
+empty-requires : tie.Need-empty-requires
+empty-requires c κs = search needs
+
+push-plain-requires : tie.Need-push-plain-requires
+push-plain-requires c κs = search needs
+
+returns : tie.Need-returns
+returns c = says-all 10 _ _ _ (c .push-plain .ensures) (c .before .empty .ensures) (plain-short _ (search needs)) (omega arith)
+
+pub plain-text-spec : {M : Type 1} → statement M
+plain-text-spec = tie.close (tie.spec empty-requires push-plain-requires returns)

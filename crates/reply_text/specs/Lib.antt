@@ -1,0 +1,2 @@
+-- The text that a query replies.
+pub mod ReplyText

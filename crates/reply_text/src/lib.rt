@@ -1,0 +1,129 @@
+// The text that a query replies, and the byte that ends it.
+ghost use mathlib.Core.Path.{_≡_};
+ghost use Prim.Native.Nat.{_≤_};
+ghost use lib.ListN.{length};
+ghost use Rattle.text.specs.Text.{shown, added, plain};
+ghost use Rattle.reply_text.specs.ReplyText.{valueNow, valueText, pairText, statusNow, statusOf, identityText, textOf, endOf};
+use command::QueryArgument;
+use name::Register;
+use state::State;
+use status::Poll;
+use text::Text;
+
+// What stands before and after the serial in the reply to *IDN?.
+const MAKE: [u8; 13] = [76, 79, 67, 75, 73, 78, 44, 77, 49, 44, 115, 47, 110];
+
+const VERSION: [u8; 9] = [44, 118, 101, 114, 49, 46, 48, 48, 48];
+
+const SERIAL_DIGITS: u8 = 5;
+
+// The value of an entry that a query replies: the frequency in force for FREQ.
+fn value_now(s: State, entry: usize) -> u32
+    ensures { λ r. ⌜ r ≡ valueNow s entry ⌝ }
+{
+    if entry == settings::FREQ {
+        return settings::in_force(s.settings, s.moving.external);
+    }
+    settings::value_of(s.settings, entry)
+}
+
+fn value_text(s: State, entry: usize) -> Text
+    ensures { λ r. ⌜ (shown r ≡ valueText s entry) × (length (shown r) ≤ 12) ⌝ }
+{
+    let row = settings::row_of(entry);
+    text::push_value(Text::empty(), value_now(s, entry), row.bias, row.decimals)
+}
+
+fn pair_text(s: State, entry: usize) -> Text
+    ensures { λ r. ⌜ (shown r ≡ pairText s entry) × (length (shown r) ≤ 25) ⌝ }
+{
+    let second = settings::behind(entry);
+    let row = settings::row_of(second);
+    text::push_next(
+        value_text(s, entry),
+        value_now(s, second),
+        row.bias,
+        row.decimals,
+    )
+}
+
+// The status byte while a line runs.
+fn status_now(s: State, waiting: bool) -> u8
+    ensures { λ r. ⌜ r ≡ statusNow s waiting ⌝ }
+{
+    let poll = Poll {
+        at_rest: storage::at_rest(s.moving.storage),
+        idle: false,
+        waiting,
+    };
+    status::status_byte(s.registers, s.enables, poll)
+}
+
+// What a status query reads: the status byte or an event register.
+fn status_of(s: State, waiting: bool, which: Register) -> u8
+    ensures { λ r. ⌜ r ≡ statusOf s waiting which ⌝ }
+{
+    match which {
+        Register::Standard => status::register_of(s.registers, Register::Standard),
+        Register::Service => status_now(s, waiting),
+        Register::Lia => status::register_of(s.registers, Register::Lia),
+        Register::Errors => status::register_of(s.registers, Register::Errors),
+    }
+}
+
+fn plain_text(value: u32) -> Text
+    ensures { λ r. ⌜ (shown r ≡ plain value) × (length (shown r) ≤ 10) ⌝ }
+{
+    text::push_plain(Text::empty(), value)
+}
+
+fn push_all(t: Text, bytes: &[u8]) -> Text
+    ensures { λ r. ⌜ shown r ≡ added (shown t) (now (bytes .entry)) ⌝ }
+{
+    let mut text = t;
+    let mut i = 0;
+    while i < bytes.len() {
+        text = text::push(text, bytes[i]);
+        i += 1;
+    }
+    text
+}
+
+fn identity_text(serial: u32) -> Text
+    ensures { λ r. ⌜ (shown r ≡ identityText serial) × (length (shown r) ≤ 27) ⌝ }
+{
+    let make = push_all(Text::empty(), &MAKE);
+    let numbered = text::push_padded(make, serial, SERIAL_DIGITS);
+    push_all(numbered, &VERSION)
+}
+
+// A reply that is a text, without its end; none for a trace read.
+pub fn text_of(s: State, q: QueryArgument, waiting: bool) -> Text
+    ensures { λ r. ⌜ (shown r ≡ textOf q s waiting) × (length (shown r) ≤ 27) ⌝ }
+{
+    match q {
+        QueryArgument::Value(entry) => value_text(s, entry),
+        QueryArgument::Pair(entry) => pair_text(s, entry),
+        QueryArgument::Enable(which) => plain_text(status::enable_of(s.enables, which) as u32),
+        QueryArgument::EnableBit(which, bit) => {
+            plain_text(status::bit_of(status::enable_of(s.enables, which), bit) as u32)
+        }
+        QueryArgument::Status(which) => plain_text(status_of(s, waiting, which) as u32),
+        QueryArgument::StatusBit(which, bit) => {
+            plain_text(status::bit_of(status_of(s, waiting, which), bit) as u32)
+        }
+        QueryArgument::Identity => identity_text(s.unit.serial),
+        QueryArgument::Points => plain_text(s.moving.storage.held),
+        QueryArgument::Trace(_, _, _, _) => Text::empty(),
+    }
+}
+
+// The byte that ends a reply on a port.
+pub fn end_of(port: u8) -> u8
+    ensures { λ r. ⌜ r ≡ endOf port ⌝ }
+{
+    if port == state::RS232 {
+        return b'\r';
+    }
+    b'\n'
+}
