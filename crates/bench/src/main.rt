@@ -25,14 +25,7 @@ fn write(reply: &[u8], len: usize) {
     }
 }
 
-// A byte without an end mark: the replies are written as their line ends.
-fn take_byte(m: Module, b: u8, one: &mut [u32], two: &mut [u32], reply: &mut [u8]) -> Module {
-    let called = lockin::take_byte(m, b, false, one, two, reply);
-    let told = called.told;
-    write(reply, told.length);
-    called.after
-}
-
+// Bytes without an end mark: the replies are written as their line ends.
 fn take_chunk(
     m: Module,
     chunk: &[u8],
@@ -43,7 +36,10 @@ fn take_chunk(
     let mut latest = m;
     let mut i = 0;
     while i < chunk.len() {
-        latest = take_byte(latest, chunk[i], one, two, reply);
+        let called = lockin::take_byte(latest, chunk[i], false, one, two, reply);
+        let told = called.told;
+        latest = called.after;
+        write(reply, told.length);
         i += 1;
     }
     latest

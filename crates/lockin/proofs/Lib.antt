@@ -1,2 +1,2 @@
 -- Laws on the public calls.
-pub mod Given
+pub mod Parts

@@ -1,3 +1,3 @@
--- What the public calls do.
+-- What the public calls do: Calls, which their promises cite; Parts, which only the code's inner functions are held to.
 pub mod Calls
-pub mod Given
+pub mod Parts

@@ -1,12 +1,16 @@
 // The remote side of one lock-in module: start, bytes, lines handed over whole, events, and the status byte between lines. Open this crate first.
 ghost use mathlib.Core.Path.{_≡_};
+ghost use Prim.Native.Nat.{_≤_};
 ghost use lib.ListN.{length};
-ghost use Rattle.event.specs.Event.{eventOf};
+ghost use Rattle.refusal.specs.Answer.{toldOf};
+ghost use Rattle.event.specs.Event.{eventOf, Occurs};
 ghost use Rattle.module.specs.Start.{startOf};
 ghost use Rattle.module.specs.Module.{pollOf};
-ghost use Rattle.lockin.specs.Calls.{wholeLine, lineCall, endedLine, fedCall, fedByte, byteCall, Answers, occurred, eventCall, Happens};
-ghost use Rattle.lockin.specs.Given.{lengthOf, ranCalled};
+ghost use Rattle.lockin.specs.Calls.{lineCall, byteCall, Answers, eventCall, Happens};
+ghost use Rattle.lockin.specs.Parts.{lengthOf, lineEffect, endEffect, guardedEffect, Has, wholeEnd};
+ghost use Rattle.lockin.specs.Parts.{GuardedStep, guardedOccurred};
 use event::Event;
+use event::Happened;
 use line::Progress;
 pub use module::Called;
 pub use module::Module;
@@ -14,11 +18,14 @@ pub use module::Polled;
 pub use module::Started;
 use queue::Ended;
 use queue::Queue;
+use queue::QueueStep;
 use refusal::Answer;
 pub use refusal::Numbers;
 use refusal::Outcome;
+use refusal::Refusal;
 pub use refusal::Told;
 pub use refusal::numbers_of;
+use state::State;
 
 // The module after an event, and whether it was refused.
 pub struct Taken {
@@ -33,6 +40,12 @@ pub fn start(serial: u32, port: u32, one: &[u32], two: &[u32]) -> Started
     module::start(serial, port, one.len(), two.len())
 }
 
+// The state after a line or a byte, and what is told.
+struct StateResult {
+    state: State,
+    told: Told,
+}
+
 // The length told of a line that ran.
 fn length_told(p: Progress) -> usize
     ensures { λ r. ⌜ r ≡ lengthOf p ⌝ }
@@ -44,29 +57,88 @@ fn length_told(p: Progress) -> usize
     p.at
 }
 
-// The module after a line that ran, with this queue.
-fn ran(p: Progress, queue: Queue) -> Called
-    ensures { λ r. ⌜ r ≡ ranCalled p queue ⌝ }
+// A line that runs.
+fn run(s: State, text: &[u8], one: &mut [u32], two: &mut [u32], reply: &mut [u8]) -> StateResult
+    requires { ⌜ length (now text) ≤ 256 ⌝ }
+    ensures { λ r. ⌜ Has
+        (lineEffect (length (now (reply .entry))) (now (text .entry)) s (now (one .entry)) (now (two .entry)))
+        r (now (one .exit)) (now (two .exit)) (now (reply .exit)) (now (reply .entry)) ⌝ }
 {
+    let p = line::run_line(s, text, one, two, reply);
     let length = length_told(p);
     let state = p.state;
     let answer = p.answer;
-    Called {
-        after: Module { state, queue },
+    StateResult {
+        state,
         told: Told { answer, length },
     }
 }
 
-fn whole_line(m: Module, text: &[u8], one: &mut [u32], two: &mut [u32], reply: &mut [u8]) -> Called
-    ensures { λ r. ⌜ Answers (wholeLine (length (now (reply .entry))) (now (text .entry)) m (now (one .entry)) (now (two .entry))) r (now (one .exit)) (now (two .exit)) (now (reply .exit)) (now (reply .entry)) ⌝ }
+// Nothing is done but the telling of an answer.
+fn tell(s: State, answer: Answer) -> StateResult
+    ensures { λ r. ⌜ r ≡ record { state = s; told = toldOf answer 0 } ⌝ }
 {
-    let queue = m.queue;
-    if text.len() <= clean::LINE {
-        let state = m.state;
-        let p = line::run_line(state, text, one, two, reply);
-        return ran(p, queue);
+    StateResult {
+        state: s,
+        told: Told { answer, length: 0 },
     }
-    module::too_long(m, queue)
+}
+
+// What comes of the end of a line, which is `text`, of a line too long, or of neither.
+fn end_line(
+    s: State,
+    ended: Ended,
+    text: &[u8],
+    one: &mut [u32],
+    two: &mut [u32],
+    reply: &mut [u8],
+) -> StateResult
+    requires { ⌜ length (now text) ≤ 256 ⌝ }
+    ensures { λ r. ⌜ Has
+        (endEffect ended (length (now (reply .entry))) (now (text .entry)) s (now (one .entry)) (now (two .entry)))
+        r (now (one .exit)) (now (two .exit)) (now (reply .exit)) (now (reply .entry)) ⌝ }
+{
+    match ended {
+        Ended::Nothing => tell(s, Answer::Passed),
+        Ended::Line => run(s, text, one, two, reply),
+        Ended::TooLong => tell(
+            state::marked(s, Refusal::LongLine),
+            Answer::Refused(Refusal::LongLine, 0),
+        ),
+    }
+}
+
+// The same where 11 and 9 let it be done, else the refusal and nothing more.
+fn end_guarded(
+    s: State,
+    outcome: Outcome,
+    ended: Ended,
+    text: &[u8],
+    one: &mut [u32],
+    two: &mut [u32],
+    reply: &mut [u8],
+) -> StateResult
+    requires { ⌜ length (now text) ≤ 256 ⌝ }
+    ensures { λ r. ⌜ Has
+        (guardedEffect outcome
+        (endEffect ended (length (now (reply .entry))) (now (text .entry)) s (now (one .entry)) (now (two .entry)))
+        s (now (one .entry)) (now (two .entry)))
+        r (now (one .exit)) (now (two .exit)) (now (reply .exit)) (now (reply .entry)) ⌝ }
+{
+    match outcome {
+        Outcome::Done => end_line(s, ended, text, one, two, reply),
+        Outcome::Refused(refusal) => tell(s, Answer::Refused(refusal, 0)),
+    }
+}
+
+// A line of so many bytes handed over whole: it ends, or is too long.
+fn whole_end(len: usize) -> Ended
+    ensures { λ r. ⌜ r ≡ wholeEnd len ⌝ }
+{
+    if len <= clean::LINE {
+        return Ended::Line;
+    }
+    Ended::TooLong
 }
 
 // A line handed over whole: no queue is used.
@@ -77,70 +149,60 @@ pub fn take_line(
     two: &mut [u32],
     reply: &mut [u8],
 ) -> Called
-    ensures { λ r. ⌜ Answers (lineCall (length (now (reply .entry))) (now (text .entry)) m (now (one .entry)) (now (two .entry))) r (now (one .exit)) (now (two .exit)) (now (reply .exit)) (now (reply .entry)) ⌝ }
-{
-    let refused = module::guard(m, one.len(), two.len());
-    match refused {
-        Outcome::Done => whole_line(m, text, one, two, reply),
-        Outcome::Refused(refusal) => module::untouched(m, refusal),
-    }
-}
-
-// The line that waits in the queue, which then is empty.
-fn ended_line(m: Module, queue: Queue, one: &mut [u32], two: &mut [u32], reply: &mut [u8]) -> Called
-    ensures { λ r. ⌜ Answers (endedLine queue (length (now (reply .entry))) m (now (one .entry)) (now (two .entry))) r (now (one .exit)) (now (two .exit)) (now (reply .exit)) (now (reply .entry)) ⌝ }
+    ensures { λ r. ⌜ Answers
+        (lineCall (length (now (reply .entry))) (now (text .entry)) m (now (one .entry)) (now (two .entry)))
+        r (now (one .exit)) (now (two .exit)) (now (reply .exit)) (now (reply .entry)) ⌝ }
 {
     let state = m.state;
-    let bytes = queue.bytes;
-    let len = module::waiting(queue);
-    let p = line::run_line(state, &bytes[0..len], one, two, reply);
-    ran(p, queue::emptied(queue))
-}
-
-// What a byte brought about.
-fn fed_call(
-    m: Module,
-    queue: Queue,
-    ended: Ended,
-    one: &mut [u32],
-    two: &mut [u32],
-    reply: &mut [u8],
-) -> Called
-    ensures { λ r. ⌜ Answers (fedCall ended queue (length (now (reply .entry))) m (now (one .entry)) (now (two .entry))) r (now (one .exit)) (now (two .exit)) (now (reply .exit)) (now (reply .entry)) ⌝ }
-{
-    match ended {
-        Ended::Nothing => {
-            let state = m.state;
-            Called {
-                after: Module { state, queue },
-                told: Told {
-                    answer: Answer::Passed,
-                    length: 0,
-                },
-            }
-        }
-        Ended::Line => ended_line(m, queue, one, two, reply),
-        Ended::TooLong => module::too_long(m, queue),
+    let queue = m.queue;
+    let bytes = m.queue.bytes;
+    let outcome = module::guard(
+        state,
+        &bytes,
+        queue.len,
+        queue.dropping,
+        one.len(),
+        two.len(),
+    );
+    let ended = whole_end(text.len());
+    let end = queue::line_end(text.len());
+    let r = end_guarded(state, outcome, ended, &text[0..end], one, two, reply);
+    let after = r.state;
+    let told = r.told;
+    Called {
+        after: Module {
+            queue,
+            state: after,
+        },
+        told,
     }
 }
 
-fn fed_byte(
-    m: Module,
+// What a byte does to the queue's numbers: nothing where 11 or 9 refuses it.
+fn step_guarded(
+    outcome: Outcome,
+    len: usize,
+    dropping: bool,
+    port: u8,
     b: u8,
     mark: bool,
-    one: &mut [u32],
-    two: &mut [u32],
-    reply: &mut [u8],
-) -> Called
-    ensures { λ r. ⌜ Answers (fedByte (length (now (reply .entry))) b mark m (now (one .entry)) (now (two .entry))) r (now (one .exit)) (now (two .exit)) (now (reply .exit)) (now (reply .entry)) ⌝ }
+) -> QueueStep
+    ensures { λ r. ⌜ GuardedStep outcome len dropping port b mark r ⌝ }
 {
-    let fed = module::fed(m.queue, m.state.unit, b, mark);
-    let queue = fed.queue;
-    let ended = fed.ended;
-    fed_call(m, queue, ended, one, two, reply)
+    match outcome {
+        Outcome::Done => queue::step_of(len, dropping, port, b, mark),
+        Outcome::Refused(refusal) => QueueStep {
+            stores: false,
+            line: len,
+            len,
+            dropping,
+            ended: Ended::Nothing,
+        },
+    }
 }
 
-// One byte, with its end mark.
+// One byte, with its end mark. The queue's bytes are held once, tested by reference and written in place, and all cases
+// leave by one way: a queue that is one of two, by branch, would be copied, and the settings with it.
 pub fn take_byte(
     m: Module,
     b: u8,
@@ -149,43 +211,79 @@ pub fn take_byte(
     two: &mut [u32],
     reply: &mut [u8],
 ) -> Called
-    ensures { λ r. ⌜ Answers (byteCall (length (now (reply .entry))) b mark m (now (one .entry)) (now (two .entry))) r (now (one .exit)) (now (two .exit)) (now (reply .exit)) (now (reply .entry)) ⌝ }
+    ensures { λ r. ⌜ Answers
+        (byteCall (length (now (reply .entry))) b mark m (now (one .entry)) (now (two .entry)))
+        r (now (one .exit)) (now (two .exit)) (now (reply .exit)) (now (reply .entry)) ⌝ }
 {
-    let refused = module::guard(m, one.len(), two.len());
-    match refused {
-        Outcome::Done => fed_byte(m, b, mark, one, two, reply),
-        Outcome::Refused(refusal) => module::untouched(m, refusal),
+    let state = m.state;
+    let port = m.state.unit.port;
+    let mut bytes = m.queue.bytes;
+    let len = m.queue.len;
+    let dropping = m.queue.dropping;
+    let outcome = module::guard(state, &bytes, len, dropping, one.len(), two.len());
+    let step = step_guarded(outcome, len, dropping, port, b, mark);
+    queue::store(&mut bytes, len, b, step.stores);
+    let end = queue::line_end(step.line);
+    let ended = step.ended;
+    let r = end_guarded(state, outcome, ended, &bytes[0..end], one, two, reply);
+    let after = r.state;
+    let told = r.told;
+    Called {
+        after: Module {
+            queue: Queue {
+                bytes,
+                len: step.len,
+                dropping: step.dropping,
+            },
+            state: after,
+        },
+        told,
     }
 }
 
-fn happened(m: Module, e: Event, one: &mut [u32], two: &mut [u32]) -> Taken
-    ensures { λ r. ⌜ Happens (occurred (eventOf e (m .state) (now (one .entry)) (now (two .entry))) (m .queue)) r (now (one .exit)) (now (two .exit)) ⌝ }
+// What an event does to the state, or its refusal by 11 or 9.
+fn occur_guarded(s: State, outcome: Outcome, e: Event, one: &mut [u32], two: &mut [u32]) -> Happened
+    ensures { λ r. ⌜ Occurs
+        (guardedOccurred outcome
+        (eventOf e s (now (one .entry)) (now (two .entry)))
+        s (now (one .entry)) (now (two .entry)))
+        r (now (one .exit)) (now (two .exit)) ⌝ }
 {
-    let queue = m.queue;
-    let state = m.state;
-    let h = event::occur(state, e, one, two);
-    let after = h.state;
-    let outcome = h.outcome;
-    Taken {
-        after: Module {
-            state: after,
-            queue,
+    match outcome {
+        Outcome::Done => event::occur(s, e, one, two),
+        Outcome::Refused(refusal) => Happened {
+            state: s,
+            outcome: Outcome::Refused(refusal),
         },
-        outcome,
     }
 }
 
 // An event.
 pub fn take_event(m: Module, e: Event, one: &mut [u32], two: &mut [u32]) -> Taken
-    ensures { λ r. ⌜ Happens (eventCall e m (now (one .entry)) (now (two .entry))) r (now (one .exit)) (now (two .exit)) ⌝ }
+    ensures { λ r. ⌜ Happens
+        (eventCall e m (now (one .entry)) (now (two .entry)))
+        r (now (one .exit)) (now (two .exit)) ⌝ }
 {
-    let refused = module::guard(m, one.len(), two.len());
-    match refused {
-        Outcome::Done => happened(m, e, one, two),
-        Outcome::Refused(refusal) => Taken {
-            after: m,
-            outcome: Outcome::Refused(refusal),
+    let state = m.state;
+    let queue = m.queue;
+    let bytes = m.queue.bytes;
+    let guard = module::guard(
+        state,
+        &bytes,
+        queue.len,
+        queue.dropping,
+        one.len(),
+        two.len(),
+    );
+    let h = occur_guarded(state, guard, e, one, two);
+    let after = h.state;
+    let outcome = h.outcome;
+    Taken {
+        after: Module {
+            queue,
+            state: after,
         },
+        outcome,
     }
 }
 

@@ -1,20 +1,13 @@
--- How far the bytes that wait, a known port and a capacity go. Assumes nothing.
-use Prim.Native.Nat.{ℕ, _%_, _≤_}
+-- How far a known port and a capacity go. Assumes nothing.
+use Prim.Native.Nat.{ℕ, _%_}
 use mathlib.Core.Bool.{true}
-use mathlib.Core.Path.{_≡_, sym, _∙_}
-use mathlib.Core.List.{List}
+use mathlib.Core.Path.{_≡_}
 use native.Mathlib.Omega.{arith}
 use native.Mathlib.Nat.{mod-eq-of-lt}
 use lib.Dec.{leb, eqb}
-use lib.ListN.{length, take}
-use lib.Seq.{take-all}
 use borrow.Author.Tests.{leb-true}
 use Rattle.number.proofs.Exact.{and-second}
 use Rattle.module.specs.Start.{unitKnown, tracesFit}
-
--- the bytes that wait are among the 256 that there are
-pub all-waiting : (bytes : List ℕ) (n : ℕ) → length bytes ≡ 256 → 256 ≤ n → take 256 bytes ≡ take n bytes
-all-waiting bytes n h l = take-all 256 bytes (omega arith) ∙ sym (take-all n bytes (omega arith))
 
 -- a known port and a capacity are small
 pub port-small : (serial port : ℕ) → unitKnown serial port ≡ true → port % 256 ≡ port

@@ -1,4 +1,3 @@
 -- The definitions that the contracts of `module` cite.
 pub mod Start
 pub mod Module
-pub mod Given

@@ -1,14 +1,11 @@
 // A module: its state and its queue; the start, the serial poll, and refusals 9, 10 and 11.
 ghost use mathlib.Core.Path.{_≡_};
-ghost use Prim.Native.Nat.{_≤_};
-ghost use lib.ListN.{take};
-ghost use Rattle.queue.specs.Queue.{waitingBytes, fedOf};
+ghost use lib.ListN.{length};
+ghost use Rattle.queue.specs.Parts.{queueOf};
 ghost use Rattle.module.specs.Start.{unitKnown, tracesFit, freshModule, refusedStart, startOf};
 ghost use Rattle.module.specs.Module.{allowedModule, guardOf, statusBetween, pollOf};
-ghost use Rattle.module.specs.Given.{untouchedCalled, tooLongCalled};
-use queue::Fed;
+use clean::LINE;
 use queue::Queue;
-use refusal::Answer;
 use refusal::Outcome;
 use refusal::Refusal;
 use refusal::Told;
@@ -16,10 +13,11 @@ use state::State;
 use state::Unit;
 use status::Poll;
 
-// A module: its state, and the bytes that wait for their line's end.
+// A module: its state, and the bytes that wait for their line's end. The queue stands first: behind a state, of 180
+// bytes, four unused ones would precede it, and its 256 bytes would be copied once more for each byte that is taken.
 pub struct Module {
-    pub state: State,
     pub queue: Queue,
+    pub state: State,
 }
 
 // A start: the module, and whether the start was refused.
@@ -102,73 +100,35 @@ pub fn start(serial: u32, port: u32, first: usize, second: usize) -> Started
     refused_start(Refusal::BadStart)
 }
 
-// The state and the queue as they may be, else refusal 11.
-pub fn allowed(m: Module) -> bool
-    ensures { λ r. ⌜ r ≡ allowedModule m ⌝ }
+// Whether a module may have this state and a queue of these bytes, else refusal 11. The bytes are lent, not copied.
+pub fn allowed(s: State, bytes: &[u8; LINE], len: usize, dropping: bool) -> bool
+    requires { ⌜ length (now bytes) ≡ 256 ⌝ }
+    ensures { λ r. ⌜ r ≡ allowedModule (record { queue = queueOf (now (bytes .entry)) len dropping; state = s }) ⌝ }
 {
-    state::allowed(m.state) & queue::keeps(m.queue, m.state.unit.port)
+    state::allowed(s) & queue::keeps(bytes, len, dropping, s.unit.port)
 }
 
-// Refusals 11 and 9.
-pub fn guard(m: Module, first: usize, second: usize) -> Outcome
-    ensures { λ r. ⌜ r ≡ guardOf m first second ⌝ }
+// Refusals 11 and 9 for a state and a queue of these bytes, and traces of these lengths.
+pub fn guard(
+    s: State,
+    bytes: &[u8; LINE],
+    len: usize,
+    dropping: bool,
+    first: usize,
+    second: usize,
+) -> Outcome
+    requires { ⌜ length (now bytes) ≡ 256 ⌝ }
+    ensures { λ r. ⌜ r ≡ guardOf
+        (record { queue = queueOf (now (bytes .entry)) len dropping; state = s }) first second ⌝ }
 {
-    let capacity = m.state.unit.capacity as usize;
-    if allowed(m) {
+    let capacity = s.unit.capacity as usize;
+    if allowed(s, bytes, len, dropping) {
         if (first == capacity) & (second == capacity) {
             return Outcome::Done;
         }
         return Outcome::Refused(Refusal::BadTraces);
     }
     Outcome::Refused(Refusal::BadState)
-}
-
-// A call that is refused before anything is done: the module as it was.
-pub fn untouched(m: Module, refusal: Refusal) -> Called
-    ensures { λ r. ⌜ r ≡ untouchedCalled refusal m ⌝ }
-{
-    Called {
-        after: m,
-        told: Told {
-            answer: Answer::Refused(refusal, 0),
-            length: 0,
-        },
-    }
-}
-
-// A line over 256 bytes: INP is set.
-pub fn too_long(m: Module, queue: Queue) -> Called
-    ensures { λ r. ⌜ r ≡ tooLongCalled m queue ⌝ }
-{
-    let state = m.state;
-    Called {
-        after: Module {
-            state: state::marked(state, Refusal::LongLine),
-            queue,
-        },
-        told: Told {
-            answer: Answer::Refused(Refusal::LongLine, 0),
-            length: 0,
-        },
-    }
-}
-
-// What a byte brings about on a module's port.
-pub fn fed(queue: Queue, unit: Unit, b: u8, mark: bool) -> Fed
-    ensures { λ r. ⌜ r ≡ fedOf queue (unit .port) b mark ⌝ }
-{
-    queue::feed(queue, unit.port, b, mark)
-}
-
-// How many bytes wait, at most 256.
-pub fn waiting(q: Queue) -> usize
-    ensures { λ r. ⌜ (take r (q .bytes) ≡ waitingBytes q) × (r ≤ 256) ⌝ }
-{
-    let len = q.len;
-    if len < clean::LINE {
-        return len;
-    }
-    clean::LINE
 }
 
 // The status byte between lines.
@@ -187,8 +147,9 @@ pub fn status_between(s: State) -> u8
 pub fn poll(m: Module) -> Polled
     ensures { λ r. ⌜ r ≡ pollOf m ⌝ }
 {
-    if allowed(m) {
-        let state = m.state;
+    let state = m.state;
+    let bytes = m.queue.bytes;
+    if allowed(state, &bytes, m.queue.len, m.queue.dropping) {
         return Polled {
             status: status_between(state),
             outcome: Outcome::Done,

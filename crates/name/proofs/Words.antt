@@ -1,26 +1,13 @@
 -- Names found by their bytes as one number are names found by their bytes. Assumes nothing.
-use Prim.Native.Nat.{ℕ, _+_, _<_}
+use Prim.Native.Nat.{ℕ, _<_}
 use mathlib.Core.Path.{_≡_, refl}
-use mathlib.Core.Bool.{Bool, true, false, cond, _&&_}
+use mathlib.Core.Bool.{Bool, true, false, _&&_}
 use mathlib.Core.List.{List, [], _∷_}
 use native.Mathlib.Omega.{arith}
-use native.Mathlib.Numerals.{add-one}
 use lib.Dec.{T, eqb, ltb, ltb→lt}
-use lib.ListN.{length, getD, drop}
-use lib.Seq.{drop-cons}
 use borrow.Author.Tests.{eq-eqb, ne-eqb, eqb-true, eqb-false}
 use Rattle.name.specs.Names.{Named, commands, sameBytes, meaningIn, meaningOf}
 use Rattle.name.specs.Word.{word, foundIn, foundOf}
-use Rattle.name.specs.declared.Meaning.the-variants.{Unknown}
-
-abbrev pub noName : Named
-noName = record { name = []; meaning = Unknown }
-
--- one entry of the list
-pub found-step : (w : ℕ) (ns : List Named) (i : ℕ) → i < length ns →
-    foundIn (drop i ns) w ≡ cond (eqb (word (getD ns i noName .name)) w) (getD ns i noName .meaning) (foundIn (drop (i + 1) ns) w)
-unfolding foundIn
-found-step w ns i h = rw (add-one, drop-cons ns i noName h)
 
 -- four bytes
 abbrev pub isFour : List ℕ → Bool

@@ -40,117 +40,64 @@ pub enum Meaning {
     Unknown,
 }
 
-const COUNT: usize = 40;
-
-// Four letters, or "*" and three, as one number, the first byte highest.
-const NAMES: [u32; 40] = [
-    709053523, // *CLS
-    709186373, // *ESE
-    709186386, // *ESR
-    709444686, // *IDN
-    710038356, // *RST
-    710103621, // *SRE
-    710104130, // *STB
-    1096112214, // AUXV
-    1145324870, // DDEF
-    1163022917, // ERRE
-    1163022931, // ERRS
-    1179471684, // FMOD
-    1179668304, // FPOP
-    1179796817, // FREQ
-    1212240461, // HARM
-    1229148236, // ICPL
-    1229409860, // IGND
-    1229736270, // ILIN
-    1230197315, // ISRC
-    1279869253, // LIAE
-    1279869267, // LIAS
-    1329944656, // OEXP
-    1330007124, // OFLT
-    1330008908, // OFSL
-    1346458963, // PAUS
-    1346912595, // PHAS
-    1380275028, // REST
-    1380798276, // RMOD
-    1381190736, // RSLP
-    1397050948, // SEND
-    1397050963, // SENS
-    1397511756, // SLVL
-    1397773395, // SPTS
-    1397899604, // SRAT
-    1398035028, // STRT
-    1398361667, // SYNC
-    1414677314, // TRCB
-    1414677324, // TRCL
-    1414678855, // TRIG
-    1414747218, // TSTR
-];
-
-const MEANINGS: [Meaning; 40] = [
-    Meaning::Act(Action::Clear), // *CLS
-    Meaning::Enable(Register::Standard), // *ESE
-    Meaning::Status(Register::Standard), // *ESR
-    Meaning::Identity, // *IDN
-    Meaning::Act(Action::Reset), // *RST
-    Meaning::Enable(Register::Service), // *SRE
-    Meaning::Status(Register::Service), // *STB
-    Meaning::Channel {
-        base: 27,
-        channels: 4,
-    }, // AUXV
-    Meaning::ChannelPair {
-        base: 15,
-        channels: 2,
-    }, // DDEF
-    Meaning::Enable(Register::Errors), // ERRE
-    Meaning::Status(Register::Errors), // ERRS
-    Meaning::Setting { entry: 1 }, // FMOD
-    Meaning::Channel {
-        base: 19,
-        channels: 2,
-    }, // FPOP
-    Meaning::Setting { entry: 2 }, // FREQ
-    Meaning::Setting { entry: 4 }, // HARM
-    Meaning::Setting { entry: 10 }, // ICPL
-    Meaning::Setting { entry: 9 }, // IGND
-    Meaning::Setting { entry: 7 }, // ILIN
-    Meaning::Setting { entry: 6 }, // ISRC
-    Meaning::Enable(Register::Lia), // LIAE
-    Meaning::Status(Register::Lia), // LIAS
-    Meaning::ChannelPair {
-        base: 21,
-        channels: 3,
-    }, // OEXP
-    Meaning::Setting { entry: 14 }, // OFLT
-    Meaning::Setting { entry: 8 }, // OFSL
-    Meaning::Act(Action::Pause), // PAUS
-    Meaning::Setting { entry: 0 }, // PHAS
-    Meaning::Act(Action::Empty), // REST
-    Meaning::Setting { entry: 13 }, // RMOD
-    Meaning::Setting { entry: 3 }, // RSLP
-    Meaning::Setting { entry: 32 }, // SEND
-    Meaning::Setting { entry: 12 }, // SENS
-    Meaning::Setting { entry: 5 }, // SLVL
-    Meaning::Points, // SPTS
-    Meaning::Setting { entry: 31 }, // SRAT
-    Meaning::Act(Action::Start), // STRT
-    Meaning::Setting { entry: 11 }, // SYNC
-    Meaning::Trace(Form::Floats), // TRCB
-    Meaning::Trace(Form::Words), // TRCL
-    Meaning::Act(Action::Trigger), // TRIG
-    Meaning::Setting { entry: 33 }, // TSTR
-];
-
-// What the four bytes of a name stand for.
+// What a name stands for, by its four bytes as one number, the first byte highest. A `match` is compiled to comparisons
+// and constants; a constant array of names would be written to the stack at each call.
 pub fn find(word: u32) -> Meaning
     ensures { λ r. ⌜ r ≡ foundOf word ⌝ }
 {
-    let mut i = 0;
-    while i < COUNT {
-        if NAMES[i] == word {
-            return MEANINGS[i];
-        }
-        i += 1;
+    match word {
+        0x2A434C53 => Meaning::Act(Action::Clear), // *CLS
+        0x2A455345 => Meaning::Enable(Register::Standard), // *ESE
+        0x2A455352 => Meaning::Status(Register::Standard), // *ESR
+        0x2A49444E => Meaning::Identity, // *IDN
+        0x2A525354 => Meaning::Act(Action::Reset), // *RST
+        0x2A535245 => Meaning::Enable(Register::Service), // *SRE
+        0x2A535442 => Meaning::Status(Register::Service), // *STB
+        0x41555856 => Meaning::Channel {
+            base: 27,
+            channels: 4,
+        }, // AUXV
+        0x44444546 => Meaning::ChannelPair {
+            base: 15,
+            channels: 2,
+        }, // DDEF
+        0x45525245 => Meaning::Enable(Register::Errors), // ERRE
+        0x45525253 => Meaning::Status(Register::Errors), // ERRS
+        0x464D4F44 => Meaning::Setting { entry: 1 }, // FMOD
+        0x46504F50 => Meaning::Channel {
+            base: 19,
+            channels: 2,
+        }, // FPOP
+        0x46524551 => Meaning::Setting { entry: 2 }, // FREQ
+        0x4841524D => Meaning::Setting { entry: 4 }, // HARM
+        0x4943504C => Meaning::Setting { entry: 10 }, // ICPL
+        0x49474E44 => Meaning::Setting { entry: 9 }, // IGND
+        0x494C494E => Meaning::Setting { entry: 7 }, // ILIN
+        0x49535243 => Meaning::Setting { entry: 6 }, // ISRC
+        0x4C494145 => Meaning::Enable(Register::Lia), // LIAE
+        0x4C494153 => Meaning::Status(Register::Lia), // LIAS
+        0x4F455850 => Meaning::ChannelPair {
+            base: 21,
+            channels: 3,
+        }, // OEXP
+        0x4F464C54 => Meaning::Setting { entry: 14 }, // OFLT
+        0x4F46534C => Meaning::Setting { entry: 8 }, // OFSL
+        0x50415553 => Meaning::Act(Action::Pause), // PAUS
+        0x50484153 => Meaning::Setting { entry: 0 }, // PHAS
+        0x52455354 => Meaning::Act(Action::Empty), // REST
+        0x524D4F44 => Meaning::Setting { entry: 13 }, // RMOD
+        0x52534C50 => Meaning::Setting { entry: 3 }, // RSLP
+        0x53454E44 => Meaning::Setting { entry: 32 }, // SEND
+        0x53454E53 => Meaning::Setting { entry: 12 }, // SENS
+        0x534C564C => Meaning::Setting { entry: 5 }, // SLVL
+        0x53505453 => Meaning::Points, // SPTS
+        0x53524154 => Meaning::Setting { entry: 31 }, // SRAT
+        0x53545254 => Meaning::Act(Action::Start), // STRT
+        0x53594E43 => Meaning::Setting { entry: 11 }, // SYNC
+        0x54524342 => Meaning::Trace(Form::Floats), // TRCB
+        0x5452434C => Meaning::Trace(Form::Words), // TRCL
+        0x54524947 => Meaning::Act(Action::Trigger), // TRIG
+        0x54535452 => Meaning::Setting { entry: 33 }, // TSTR
+        _ => Meaning::Unknown,
     }
-    Meaning::Unknown
 }

@@ -71,18 +71,25 @@ fn perform_within(
     perform_on(m, operation, bytes, &mut one[0..slots], &mut two[0..slots])
 }
 
-// A line's end: the answer to the operation that the line asks for, none where it is empty.
-pub fn take_line(m: Module, line: &[u8], len: usize, one: &mut [u32], two: &mut [u32]) -> Module {
+// A line's end: the answer to the operation that the line asks for, none where it is empty. The bytes that the
+// operation brings are put at the start of a buffer.
+pub fn take_line(
+    m: Module,
+    line: &[u8],
+    len: usize,
+    bytes: &mut [u8],
+    one: &mut [u32],
+    two: &mut [u32],
+) -> Module {
     if len == 0 {
         return m;
     }
     if line.len() < len {
         return calls::wrong(m);
     }
-    let mut bytes = io::large_buffer();
-    let operation = operations::operation_of(&line[0..len], &mut bytes);
+    let operation = operations::operation_of(&line[0..len], bytes);
     if let Operation::Start(serial, port, first, second) = operation {
         return calls::start(serial, port, first, second, one, two);
     }
-    perform_within(m, operation, &bytes, one, two)
+    perform_within(m, operation, bytes, one, two)
 }

@@ -4,6 +4,7 @@
 fn main() {
     let mut chunk = io::large_buffer();
     let mut line = operations::line_buffer();
+    let mut bytes = io::large_buffer();
     let mut one = operations::trace_buffer();
     let mut two = operations::trace_buffer();
     let mut latest = calls::refused();
@@ -11,7 +12,7 @@ fn main() {
     let mut turns = u64::MAX;
     while turns > 0 {
         next = terminal::next_line(next, &mut chunk, &mut line);
-        latest = operation::take_line(latest, &line, next.len, &mut one, &mut two);
+        latest = operation::take_line(latest, &line, next.len, &mut bytes, &mut one, &mut two);
         let ended = next.ended;
         if ended {} else {
             return;

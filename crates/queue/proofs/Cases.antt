@@ -4,9 +4,8 @@ use mathlib.Core.Path.{_≡_, _∙_}
 use mathlib.Core.Bool.{Bool, true, false, cond, _||_}
 use borrow.Author.Tests.{lt-ltb, le-ltb}
 use Rattle.queue.specs.declared.Queue.{Queue}
-use Rattle.queue.specs.declared.Fed.{Fed}
 use Rattle.queue.specs.declared.Ended.the-variants.{Nothing, Line}
-use Rattle.queue.specs.Queue.{lineLimit, endsLine, isMarked, longer, droppedOf, tooLongOf, addedOf, fedOf}
+use Rattle.queue.specs.Queue.{Fed, lineLimit, endsLine, isMarked, longer, droppedOf, tooLongOf, addedOf, fedOf}
 
 first : (t : Bool) (a b : Fed) → t ≡ true → cond t a b ≡ a
 first t a b e = rw e

@@ -8,9 +8,9 @@ use lib.Dec.{ltb}
 use lib.ListN.{length, length-take, length-set}
 use borrow.Author.Tests.{ltb-true, ltb-false}
 use Rattle.queue.specs.declared.Queue.{Queue}
-use Rattle.queue.specs.declared.Fed.{Fed}
 use Rattle.queue.specs.declared.Ended.the-variants.{Nothing, Line}
-use Rattle.queue.specs.Queue.{lineLimit, longer, waitingBytes, endsLine, isMarked, droppedOf, tooLongOf, addedOf, fedOf, noEnd, keepsOf}
+use Rattle.queue.specs.Queue.{Fed, lineLimit, longer, waitingBytes, endsLine, isMarked, noEnd, keepsOf}
+use Rattle.queue.specs.Queue.{droppedOf, tooLongOf, addedOf, fedOf}
 use Rattle.queue.proofs.Cases.{added-fits, added-full, fed-dropped, fed-ends, fed-added}
 use Rattle.queue.proofs.Waiting.{waiting-more}
 use Rattle.queue.proofs.Kept.{facts}

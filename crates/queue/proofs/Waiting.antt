@@ -1,14 +1,17 @@
 -- The bytes that wait, read one after the other, and with one byte more. Assumes nothing.
-use Prim.Native.Nat.{ℕ, _+_, _≤_, _<_}
-use mathlib.Core.Path.{_≡_, _∙_}
-use mathlib.Core.Bool.{true, false, not, _&&_, and-eq-true-iff}
+use Prim.Native.Nat.{ℕ, zero, suc, _+_, _≤_, _<_}
+use mathlib.Core.Path.{_≡_, refl, sym, _∙_}
+use mathlib.Core.Bool.{Bool, true, false, not, _&&_, and-eq-true-iff, false≢true}
 use mathlib.Core.List.{List, [], _∷_, _++_}
 use native.Mathlib.Omega.{arith}
 use native.Mathlib.Numerals.{add-one}
 use lib.ListN.{length, take, drop, getD, drop-of-length-le}
 use lib.Seq.{drop-cons, getD-take, take-suc-set, length-take-le}
+use lib.Dec.{ltb, eqb}
+use borrow.Author.Tests.{ltb-true, ltb-false, eqb-true, eqb-false}
 use Rattle.queue.specs.declared.Queue.{Queue}
 use Rattle.queue.specs.Queue.{longer, waitingBytes, endsLine, noEnd}
+use Rattle.queue.specs.Parts.{EndNone}
 
 module _ (port : ℕ) (bytes : List ℕ) (len i : ℕ) (fits : len ≤ length bytes) where
   rest-step : i < len → noEnd port (drop i (take len bytes)) ≡ not (endsLine port (getD bytes i 0)) && noEnd port (drop (i + 1) (take len bytes))
@@ -29,6 +32,41 @@ module _ (port : ℕ) (bytes : List ℕ) (len i : ℕ) (fits : len ≤ length by
   pub rest-none : len ≤ i → noEnd port (drop i (take len bytes)) ≡ true
   unfolding noEnd
   rest-none h = rw (drop-of-length-le (take len bytes) {i = i} (omega (arith, length-take-le len bytes fits)))
+
+-- one byte more that ends none, by the test so far and its own
+module _ (port : ℕ) (bytes : List ℕ) (at k : ℕ) (none ends : Bool) where
+  off : (t : Bool) → not t ≡ true → t ≡ false
+  off true e = absurd (false≢true e)
+  off false e = refl
+
+  pub none-more : (none ≡ true → EndNone port bytes at k) → ends ≡ endsLine port (getD bytes (at + k) 0) →
+      none && not ends ≡ true → EndNone port bytes at (k + 1)
+  none-more so own both j h = by (eqb j k) refl where
+    parts : (none ≡ true) × (not ends ≡ true)
+    parts = and-eq-true-iff none (not ends) .0 both
+
+    by : (t : Bool) → eqb j k ≡ t → endsLine port (getD bytes (at + j) 0) ≡ false
+    by true e = rw (eqb-true j k e) (sym own ∙ off ends (parts .1))
+    by false e = so (parts .0) j (omega (arith, eqb-false j k e))
+
+-- some bytes that end none, of which the last may lie past those that wait
+module _ (port : ℕ) (bytes : List ℕ) (len i : ℕ) (fits : len ≤ length bytes) where
+  abbrev Left : ℕ → Bool
+  Left n = noEnd port (drop n (take len bytes))
+
+  pub rest-skips : (n : ℕ) → EndNone port bytes i n → Left (i + n) ≡ Left i
+  rest-skips zero clear = let e : i + 0 ≡ i = omega arith in rw e
+  rest-skips (suc n) clear = by (ltb (i + n) len) refl (rest-skips n (λ k h. clear k (omega arith))) where
+    e : i + suc n ≡ (i + n) + 1
+    e = omega arith
+
+    by : (t : Bool) → ltb (i + n) len ≡ t → Left (i + n) ≡ Left i → Left (i + suc n) ≡ Left i
+    by true l ih =
+        rw e (sym (rest-goes-on port bytes len (i + n) fits (ltb-true _ _ l) (clear n (omega arith))) ∙ ih)
+    by false l ih =
+        let past = ltb-false (i + n) len l in
+        let none = rest-none port bytes len ((i + n) + 1) fits (omega arith) in
+        rw e (none ∙ sym (rest-none port bytes len (i + n) fits past) ∙ ih)
 
 -- one byte more in a queue with room
 pub waiting-more : (q : Queue) (b : ℕ) → q .len < length (q .bytes) → waitingBytes (longer q b) ≡ waitingBytes q ++ (b ∷ [])

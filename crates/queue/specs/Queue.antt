@@ -5,8 +5,8 @@ use mathlib.Core.List.{List, [], _∷_}
 use lib.Dec.{leb, ltb, eqb}
 use lib.ListN.{take, set, replicate}
 use Rattle.queue.specs.declared.Queue.{Queue}
+use Rattle.queue.specs.declared.Ended.{Ended}
 use Rattle.queue.specs.declared.Ended.the-variants.{Nothing, Line, TooLong}
-use Rattle.queue.specs.declared.Fed.{Fed}
 
 -- "A port is fixed at start: RS232 .. or GPIB": a port is a number, and RS232 is 0
 abbrev pub rs232 : ℕ
@@ -50,6 +50,11 @@ endsLine port b = eqb b lf || (eqb port rs232 && eqb b cr)
 -- "GPIB (LF or an end mark on a byte ends a line, ..). The end mark means nothing on RS232."
 unfoldable pub isMarked : ℕ → Bool → Bool
 isMarked port mark = not (eqb port rs232) && mark
+
+-- the queue after a byte, and what the byte brings about
+pub record Fed : Type 0 where
+  pub queue : Queue
+  pub ended : Ended
 
 -- "bytes dropped up to the line's end, which answers 0"
 unfoldable pub droppedOf : Queue → Bool → Fed

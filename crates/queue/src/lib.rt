@@ -1,6 +1,10 @@
 // The queue of bytes that wait for their line's end.
 ghost use mathlib.Core.Path.{_≡_};
-ghost use Rattle.queue.specs.Queue.{emptyQueue, emptiedOf, endsLine, isMarked, droppedOf, addedOf, tooLongOf, fedOf, keepsOf};
+ghost use mathlib.Core.Bool.{true};
+ghost use Prim.Native.Nat.{_≤_, min};
+ghost use lib.ListN.{length, take, drop};
+ghost use Rattle.queue.specs.Queue.{emptyQueue, endsLine, isMarked, noEnd, keepsOf};
+ghost use Rattle.queue.specs.Parts.{queueOf, storedIn, Steps, EndNone};
 use clean::LINE;
 
 // The port RS232; any other number is GPIB.
@@ -20,9 +24,13 @@ pub enum Ended {
     TooLong,
 }
 
-// The queue after a byte, and what the byte brings about.
-pub struct Fed {
-    pub queue: Queue,
+// What a byte does to a queue, in numbers: whether it is stored behind the bytes that wait; how many bytes the line
+// then has; how many wait once a line that ended has run; whether bytes are dropped from here on; what it brings about.
+pub struct QueueStep {
+    pub stores: bool,
+    pub line: usize,
+    pub len: usize,
+    pub dropping: bool,
     pub ended: Ended,
 }
 
@@ -37,16 +45,6 @@ impl Queue {
             dropping: false,
         }
     }
-}
-
-// The queue after its line has run.
-pub fn emptied(q: Queue) -> Queue
-    ensures { λ r. ⌜ r ≡ emptiedOf q ⌝ }
-{
-    let mut t = q;
-    t.len = 0;
-    t.dropping = false;
-    t
 }
 
 // Whether a byte ends a line by itself: LF on both ports, CR on RS232.
@@ -72,87 +70,125 @@ fn is_marked(port: u8, mark: bool) -> bool
     false
 }
 
-// A byte while a line's bytes are dropped: the line's end ends the dropping.
-fn dropped(q: Queue, ends: bool) -> Fed
-    ensures { λ r. ⌜ r ≡ droppedOf q ends ⌝ }
-{
-    let mut t = q;
-    t.dropping = !ends;
-    Fed {
-        queue: t,
-        ended: Ended::Nothing,
-    }
-}
-
-// Byte 257 of a line: the queue is emptied, and the line's bytes are dropped up to its end, which this one is where it is marked.
-fn too_long(q: Queue, marked: bool) -> Fed
-    ensures { λ r. ⌜ r ≡ tooLongOf q marked ⌝ }
-{
-    let mut t = q;
-    t.len = 0;
-    t.dropping = !marked;
-    Fed {
-        queue: t,
-        ended: Ended::TooLong,
-    }
-}
-
-// One byte more of a line: the last one where it is marked.
-fn added(q: Queue, b: u8, marked: bool) -> Fed
-    ensures { λ r. ⌜ r ≡ addedOf q b marked ⌝ }
-{
-    let at = q.len;
-    if LINE <= at {
-        return too_long(q, marked);
-    }
-    let mut t = q;
-    t.bytes[at] = b;
-    t.len = at + 1;
-    if marked {
-        return Fed {
-            queue: t,
-            ended: Ended::Line,
-        };
-    }
-    Fed {
-        queue: t,
-        ended: Ended::Nothing,
-    }
-}
-
-// A byte, with its end mark or not: the queue after it, and what it brings about.
-pub fn feed(q: Queue, port: u8, b: u8, mark: bool) -> Fed
-    ensures { λ r. ⌜ r ≡ fedOf q port b mark ⌝ }
+// A byte, with its end mark or not, and a queue of so many bytes: they are neither read nor copied.
+pub fn step_of(len: usize, dropping: bool, port: u8, b: u8, mark: bool) -> QueueStep
+    ensures { λ r. ⌜ Steps len dropping port b mark r ⌝ }
 {
     let ends = ends_line(port, b);
     let marked = is_marked(port, mark);
-    if q.dropping {
-        return dropped(q, ends || marked);
+    if dropping {
+        return QueueStep {
+            stores: false,
+            line: len,
+            len,
+            dropping: !(ends | marked),
+            ended: Ended::Nothing,
+        };
     }
     if ends {
-        return Fed {
-            queue: q,
+        return QueueStep {
+            stores: false,
+            line: len,
+            len: 0,
+            dropping: false,
             ended: Ended::Line,
         };
     }
-    added(q, b, marked)
+    if LINE <= len {
+        return QueueStep {
+            stores: false,
+            line: 0,
+            len: 0,
+            dropping: !marked,
+            ended: Ended::TooLong,
+        };
+    }
+    if marked {
+        return QueueStep {
+            stores: true,
+            line: len + 1,
+            len: 0,
+            dropping: false,
+            ended: Ended::Line,
+        };
+    }
+    QueueStep {
+        stores: true,
+        line: len + 1,
+        len: len + 1,
+        dropping: false,
+        ended: Ended::Nothing,
+    }
 }
 
-// Refusal 11's part: whether a state of the port may hold this queue.
-pub fn keeps(q: Queue, port: u8) -> bool
-    ensures { λ r. ⌜ r ≡ keepsOf q port ⌝ }
+// Stores a byte behind the first `at`, where it is to be stored.
+pub fn store(bytes: &mut [u8; LINE], at: usize, b: u8, stores: bool)
+    ensures { λ _. ⌜ now (bytes .exit) ≡ storedIn stores at b (now (bytes .entry)) ⌝ }
 {
-    let len = q.len;
+    if stores {
+        if at < LINE {
+            bytes[at] = b;
+        }
+    }
+}
+
+// Where a line of so many bytes ends among 256 bytes.
+pub fn line_end(len: usize) -> usize
+    ensures { λ r. ⌜ r ≡ min len 256 ⌝ }
+{
+    if len < LINE {
+        return len;
+    }
+    LINE
+}
+
+// Whether none of sixteen bytes ends a line. No byte ends the loop early: so all sixteen are tested at once.
+fn sixteen_end_none(bytes: &[u8; LINE], at: usize, port: u8) -> bool
+    requires { ⌜ at ≤ 240 ⌝ }
+    ensures { λ r. ⌜ (r ≡ true → EndNone port (now (bytes .entry)) at 16) ⌝ }
+{
+    let mut none = true;
+    let mut k = 0;
+    while k < 16 {
+        none = none & !ends_line(port, bytes[at + k]);
+        k += 1;
+    }
+    none
+}
+
+// A place before which none of the first len bytes ends a line, found sixteen bytes at a time; it may lie past them.
+fn passed_over(bytes: &[u8; LINE], len: usize, port: u8) -> usize
+    requires { ⌜ len ≤ length (now bytes) ⌝ }
+    ensures { λ r. ⌜ noEnd port (drop r (take len (now (bytes .entry))))
+        ≡ noEnd port (take len (now (bytes .entry))) ⌝ }
+{
+    let mut i = 0;
+    while i < len {
+        if 240 < i {
+            return i;
+        }
+        if sixteen_end_none(bytes, i, port) {} else {
+            return i;
+        }
+        i += 16;
+    }
+    i
+}
+
+// Refusal 11's part: whether a state of the port may hold a queue of these bytes, which are lent and not copied.
+pub fn keeps(bytes: &[u8; LINE], len: usize, dropping: bool, port: u8) -> bool
+    requires { ⌜ length (now bytes) ≡ 256 ⌝ }
+    ensures { λ r. ⌜ r ≡ keepsOf (queueOf (now (bytes .entry)) len dropping) port ⌝ }
+{
     if LINE < len {
         return false;
     }
-    if q.dropping {
+    if dropping {
         return len == 0;
     }
-    let mut i = 0;
+    let mut i = passed_over(bytes, len, port);
     while i < len {
-        let b = q.bytes[i];
-        if ends_line(port, b) {
+        if ends_line(port, bytes[i]) {
             return false;
         }
         i += 1;

@@ -2,6 +2,7 @@
 pub mod Numbers
 pub mod Rows
 pub mod Every
+pub mod Parts
 pub mod Phase
 pub mod Start
 pub mod Exact

@@ -7,34 +7,10 @@ use native.Mathlib.Nat.{le-of-suc-le-suc, not-suc-le-zero}
 use native.Mathlib.Omega.{arith}
 use lib.Dec.{T, leb, ltb, eqb, leb→le}
 use lib.ListN.{length, getD}
-use Rattle.settings.specs.Table.{table, rowOf, noRow, cells, startOf, freq}
+use Rattle.settings.specs.Table.{table, rowOf, noRow, freq}
 use Rattle.settings.specs.Frequency.{hertz, stepBy, frequencyStep}
 use Rattle.settings.specs.Setting.{stepOf}
-use Rattle.settings.specs.Allowed.{keeps, keepsIn}
 use Rattle.settings.specs.declared.Row.{Row}
-
--- a row made of what the code keeps: its cells, the decimals and the start
-abbrev decimalsOf : Row → ℕ
-decimalsOf r = r .decimals
-
-abbrev made : List ℕ → ℕ → ℕ → Row
-made l decimals start =
-    record {
-      bias = getD l 0 0;
-      low = getD l 1 0;
-      high = getD l 2 0;
-      least = getD l 3 0;
-      most = getD l 4 0;
-      step = getD l 5 0;
-      decimals = decimals;
-      start = start;
-    }
-
-pub made-at : (rows : List Row) (e : List ℕ) (d : Row) (i : ℕ) → i < length rows →
-    made (getD (map cells rows) i e) (getD (map decimalsOf rows) i 0) (getD (map startOf rows) i 0) ≡ getD rows i d
-made-at [] e d i h = absurd (not-suc-le-zero h)
-made-at (r ∷ rows) e d zero h = refl
-made-at (r ∷ rows) e d (suc i) h = made-at rows e d i (le-of-suc-le-suc h)
 
 and-left : (a b : Bool) → T (a && b) → T a
 and-left true b t = tt
@@ -75,21 +51,34 @@ pub row-decimals : (entry : ℕ) → rowOf entry .decimals ≤ 4
 unfolding table
 row-decimals entry = leb→le (rowOf entry .decimals) 4 (row-rule (λ r. leb (r .decimals) 4) tt tt entry)
 
--- FREQ's step, whatever the tests say
+-- what holds of FREQ's six steps holds of its step, whatever the tests say
+pub step-cases : (P : ℕ → Type 0) (below : ℕ → Bool) → P 1 → P 10 → P 100 → P 1000 → P 10000 → P 100000 →
+    P (stepBy below)
+unfolding stepBy
+step-cases P below p q r s t u =
+    by (below (hertz 10)) (below (hertz 100)) (below (hertz 1000)) (below (hertz 10000)) (below (hertz 100000)) where
+      by : (a b c d e : Bool) → P (cond a 1 (cond b 10 (cond c 100 (cond d 1000 (cond e 10000 100000)))))
+      by true b c d e = p
+      by false true c d e = q
+      by false false true d e = r
+      by false false false true e = s
+      by false false false false true = t
+      by false false false false false = u
+
 pub record Step (s : ℕ) : Type 0 where
   pub least : 1 ≤ s
   pub most : s ≤ 100000
 
+step : (s : ℕ) → T (leb 1 s && leb s 100000) → Step s
+step s t =
+    record {
+      least = leb→le 1 s (and-left (leb 1 s) (leb s 100000) t);
+      most = leb→le s 100000 (and-right (leb 1 s) (leb s 100000) t);
+    }
+
 pub step-by : (below : ℕ → Bool) → Step (stepBy below)
-unfolding stepBy
-step-by below = by (below (hertz 10)) (below (hertz 100)) (below (hertz 1000)) (below (hertz 10000)) (below (hertz 100000)) where
-  by : (a b c d e : Bool) → Step (cond a 1 (cond b 10 (cond c 100 (cond d 1000 (cond e 10000 100000)))))
-  by true b c d e = record { least = omega arith; most = omega arith }
-  by false true c d e = record { least = omega arith; most = omega arith }
-  by false false true d e = record { least = omega arith; most = omega arith }
-  by false false false true e = record { least = omega arith; most = omega arith }
-  by false false false false true = record { least = omega arith; most = omega arith }
-  by false false false false false = record { least = omega arith; most = omega arith }
+step-by below =
+    step-cases Step below (step 1 tt) (step 10 tt) (step 100 tt) (step 1000 tt) (step 10000 tt) (step 100000 tt)
 
 pub step-least : (entry whole : ℕ) → 1 ≤ stepOf entry whole
 unfolding stepOf
@@ -97,19 +86,3 @@ step-least entry whole = by (eqb entry freq) where
   by : (t : Bool) → 1 ≤ cond t (frequencyStep whole) (rowOf entry .step)
   by true = step-by (λ k. ltb whole k) .least
   by false = row-step entry
-
--- keeping by an entry's own range and step, and by the cells of the table as the code has them
-pub keeps-in : (entry x : ℕ) → keepsIn entry (rowOf entry .least) (rowOf entry .most) (rowOf entry .step) x ≡ keeps entry x
-unfolding keepsIn keeps stepOf
-keeps-in entry x = refl
-
-pub keeps-cells : {l : List (List ℕ)} → l ≡ map cells table → (e : List ℕ) (entry x : ℕ) → entry < 34 →
-    keepsIn entry (getD (getD l entry e) 3 0) (getD (getD l entry e) 4 0) (getD (getD l entry e) 5 0) x ≡ keeps entry x
-unfolding table rowOf
-keeps-cells p e entry x h =
-    let m = made-at table e noRow entry h in
-    rw p (ap (λ r. keepsIn entry (r .least) (r .most) (r .step) x) m) ∙ keeps-in entry x
-
-pub step-cell : {l : List (List ℕ)} → l ≡ map cells table → (e : List ℕ) (entry : ℕ) → entry < 34 → 1 ≤ getD (getD l entry e) 5 0
-unfolding table rowOf
-step-cell p e entry h = rw (p, ap (λ r. r .step) (made-at table e noRow entry h)) (row-step entry)

@@ -11,10 +11,6 @@ use Rattle.settings.specs.declared.Settings.{Settings}
 unfoldable pub keeps : ℕ → ℕ → Bool
 keeps entry x = leb (rowOf entry .least) x && (leb x (rowOf entry .most) && eqb (x % stepOf entry x) 0)
 
--- the same where the row's range and step are told
-unfoldable pub keepsIn : (entry least most step : ℕ) → ℕ → Bool
-keepsIn entry least most step x = leb least x && (leb x most && eqb (x % cond (eqb entry freq) (frequencyStep x) step) 0)
-
 -- the test holds of every number below n
 unfoldable pub every : (ℕ → Bool) → ℕ → Bool
 every test zero = true

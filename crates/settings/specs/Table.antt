@@ -126,10 +126,6 @@ noRow = whole 1 0 0
 unfoldable pub rowOf : ℕ → Row
 rowOf entry = getD table entry noRow
 
--- a row's numbers as they stand in one line of the code's table: the decimals and the start stand apart
-abbrev pub cells : Row → List ℕ
-cells r = r .bias ∷ r .low ∷ r .high ∷ r .least ∷ r .most ∷ r .step ∷ []
-
 abbrev pub startOf : Row → ℕ
 startOf r = r .start
 

@@ -1,13 +1,16 @@
 // The settings of a lock-in module, by the table of document 01.
 ghost use mathlib.Core.Path.{_≡_};
-ghost use mathlib.Core.List.{map};
-ghost use Prim.Native.Nat.{_≤_};
-ghost use Rattle.settings.specs.Table.{table, cells, rowOf, startSettings, turnedOf, behind, valueOf, withValue};
+ghost use mathlib.Core.Bool.{_&&_};
+ghost use Prim.Native.Nat.{_%_};
+ghost use lib.Dec.{leb, eqb};
+ghost use Rattle.settings.specs.Table.{entries, rowOf, startSettings, turnedOf, behind, valueOf, withValue};
 ghost use Rattle.settings.specs.Frequency.{frequencyStep, inForce, detectionOf, withinLimit, above200, timeConstantStands, crossingOf, frequencyInRange};
 ghost use Rattle.settings.specs.Setting.{stepOf, rangeOf, turnedAt, valueTaken};
-ghost use Rattle.settings.specs.Allowed.{keepsIn, keeps, keepsAll, allowedOf};
+ghost use Rattle.settings.specs.Allowed.{every, keeps, keepsAll, allowedOf};
 
 mod table;
+
+pub use table::row_of;
 
 // Entries of the table that rules name.
 pub const PHAS: usize = 0;
@@ -85,18 +88,6 @@ pub struct Crossing {
     pub bits: u8,
 }
 
-// The row of an entry past the table: it takes no value.
-const NO_ROW: Row = Row {
-    bias: 0,
-    low: 1,
-    high: 0,
-    least: 1,
-    most: 0,
-    step: 1,
-    decimals: 0,
-    start: 0,
-};
-
 impl Settings {
     // The settings at start and after *RST.
     pub fn start() -> Settings
@@ -106,34 +97,6 @@ impl Settings {
             values: table::START,
         }
     }
-}
-
-// The table's numbers, row by row.
-fn cells() -> [[u32; 6]; ENTRIES]
-    ensures { λ r. ⌜ r ≡ map cells table ⌝ }
-{
-    table::TABLE
-}
-
-// The row of an entry.
-pub fn row_of(entry: usize) -> Row
-    ensures { λ r. ⌜ r ≡ rowOf entry ⌝ }
-{
-    if entry < ENTRIES {
-        let table = cells();
-        let row = table[entry];
-        return Row {
-            bias: row[0],
-            low: row[1],
-            high: row[2],
-            least: row[3],
-            most: row[4],
-            step: row[5],
-            decimals: table::DECIMALS[entry],
-            start: table::START[entry],
-        };
-    }
-    NO_ROW
 }
 
 // The value of an entry, 0 past the table.
@@ -314,50 +277,54 @@ fn turned_at(entry: usize, taken: number::Argument) -> number::Argument
     number::Argument::Value(value)
 }
 
-// Whether a state may keep a value of which the range and the step are told: FREQ has a step of its own.
-fn keeps_in(entry: usize, value: u32, least: u32, most: u32, step: u32) -> bool
-    requires { ⌜ 1 ≤ step ⌝ }
-    ensures { λ r. ⌜ r ≡ keepsIn entry least most step value ⌝ }
-{
-    if value < least {
-        return false;
-    }
-    if most < value {
-        return false;
-    }
-    if entry == FREQ {
-        return value % frequency_step(value as u64) == 0;
-    }
-    if step == 1 {
-        return true;
-    }
-    value % step == 0
-}
-
 // Whether a state may keep a value at an entry: in its range and on its step.
 pub fn keeps_value(entry: usize, value: u32) -> bool
     ensures { λ r. ⌜ r ≡ keeps entry value ⌝ }
 {
     let row = row_of(entry);
-    keeps_in(entry, value, row.least, row.most, row.step)
+    let step = step_of(entry, value as u64);
+    (row.least <= value) & ((value <= row.most) & (value % step == 0))
 }
 
-// Whether a state may keep every value. The table is at hand once for all entries.
+// Whether every value lies in its entry's range. No value ends the loop early: so it is unrolled whole, four values are
+// tested at once, and neither column is made in memory.
+fn in_ranges(s: Settings) -> bool
+    ensures { λ r. ⌜ r ≡ every
+        (λ e. leb (rowOf e .least) (valueOf s e) && leb (valueOf s e) (rowOf e .most)) entries ⌝ }
+{
+    let values = s.values;
+    let least = table::leasts();
+    let most = table::mosts();
+    let mut inside = true;
+    let mut entry = 0;
+    while entry < ENTRIES {
+        let value = values[entry];
+        inside = inside & ((least[entry] <= value) & (value <= most[entry]));
+        entry += 1;
+    }
+    inside
+}
+
+// Whether a frequency lies on its step: by constants, since a division by a variable takes long.
+fn on_frequency_step(value: u32) -> bool
+    ensures { λ r. ⌜ r ≡ eqb (value % frequencyStep value) 0 ⌝ }
+{
+    match frequency_step(value as u64) {
+        1 => true,
+        10 => value % 10 == 0,
+        100 => value % 100 == 0,
+        1000 => value % 1000 == 0,
+        10000 => value % 10000 == 0,
+        _ => value % 100000 == 0,
+    }
+}
+
+// Whether a state may keep every value. FREQ and SLVL alone have steps that a value in its range can miss.
 pub fn keeps_all(s: Settings) -> bool
     ensures { λ r. ⌜ r ≡ keepsAll s ⌝ }
 {
-    let values = s.values;
-    let table = cells();
-    let mut entry = 0;
-    while entry < ENTRIES {
-        let row = table[entry];
-        let kept = keeps_in(entry, values[entry], row[3], row[4], row[5]);
-        if kept {} else {
-            return false;
-        }
-        entry += 1;
-    }
-    true
+    let steps = on_frequency_step(value_of(s, FREQ)) & (value_of(s, SLVL) % 2 == 0);
+    in_ranges(s) & steps
 }
 
 // Whether a state may have the settings and the external frequency: the settings' part of refusal 11.

@@ -21,6 +21,9 @@ shared-slice-read-take-byte c = search needs
 take-byte-requires : tie.Need-take-byte-requires Inv-loop μ-loop
 take-byte-requires c κs = search needs
 
+write-requires : tie.Need-write-requires Inv-loop μ-loop
+write-requires c κs = search needs
+
 add-i : tie.Need-add-i Inv-loop μ-loop
 add-i c = search needs
 
@@ -51,6 +54,7 @@ take-chunk-spec =
     loop-holds
     shared-slice-read-take-byte
     take-byte-requires
+    write-requires
     add-i
     loop-less
     loop-again

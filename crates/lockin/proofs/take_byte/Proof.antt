@@ -1,25 +1,48 @@
--- `lockin::take_byte` meets its contract: guarded by 11 and 9. Assumes nothing.
-use mathlib.Core.Path.{sym, _∙_}
+-- `lockin::take_byte` meets its contract: its parts answer as the call does. Assumes nothing.
+use mathlib.Core.Path.{_≡_, _∙_}
+use native.Mathlib.Nat.{sub-zero}
+use native.Mathlib.Omega.{arith}
+use lib.ListN.{length}
 use borrow.Author.Needs.{needs}
-use Rattle.lockin.specs.Calls.{guarded, byteCall}
-use Rattle.lockin.proofs.Given.{untouched-answers}
+use Rattle.lockin.proofs.Parts.{stored-length, byte-answers}
 use Rattle.lockin.proofs.take_byte.Statement.{statement}
 use Rattle.lockin.proofs.take_byte.Tie as tie
+
+-- the queue of a module has room for 256 bytes
+long : (start : tie.Start) → length (start .args .m .queue .bytes) ≡ 256
+long start = search needs
 
 guard-requires : tie.Need-guard-requires
 guard-requires c κs = search needs
 
-enum-told : tie.Need-enum-told
-enum-told c = search needs
+step-guarded-requires : tie.Need-step-guarded-requires
+step-guarded-requires c κs = search needs
 
-fed-byte-requires : tie.Need-fed-byte-requires
-fed-byte-requires c κs = search needs
+store-requires : tie.Need-store-requires
+store-requires c κs = search needs
 
-enum-known-refused : tie.Need-enum-known-refused
-enum-known-refused c = search needs
+line-end-requires : tie.Need-line-end-requires
+line-end-requires c κs = search needs
 
-untouched-requires : tie.Need-untouched-requires
-untouched-requires c κs = search needs
+sub-end-guarded : tie.Need-sub-end-guarded
+sub-end-guarded c = search needs
+
+part-end-guarded-start : tie.Need-part-end-guarded-start
+part-end-guarded-start c = search needs
+
+part-end-guarded-end : tie.Need-part-end-guarded-end
+part-end-guarded-end c =
+    let ended = c .before in
+    let step = ended .before .before .before in
+    let start = step .before .before .before .before .before .before .before .before in
+    let m = start .args .m in
+    let stored : length (ended .before .store .last .0) ≡ 256 =
+    rw (ended .before .store .ensures)
+    (stored-length (step .step-guarded .result .stores) (m .queue .len) _ (m .queue .bytes) ∙ long start) in
+    omega (arith, ended .line-end .ensures)
+
+end-guarded-requires : tie.Need-end-guarded-requires
+end-guarded-requires c κs = search needs
 
 same-length : tie.Need-same-length
 same-length c = search needs
@@ -31,24 +54,30 @@ same-length-3 : tie.Need-same-length-3
 same-length-3 c = search needs
 
 returns : tie.Need-returns
-unfolding byteCall guarded
-returns c = rw (sym (c .before .before .before .before .before .before .before .before .before .before .before .before .guard .ensures) ∙ c .before .before .before .before .before .before .before .before .before .before .enum-told .given .1) (c .before .before .before .before .before .before .fed-byte .ensures)
-
-returns-2 : tie.Need-returns-2
-unfolding byteCall guarded
-returns-2 c = rw (c .untouched .ensures, sym (c .before .before .before .before .guard .ensures) ∙ c .before .before .refused .given .1) (untouched-answers _ _ _ _ _)
+returns c =
+    let done = c .before .before .before .before .before .before .before .before in
+    let ended = done .before .before .before .before .before .before in
+    let step = ended .before .before .before in
+    let guard = step .before in
+    let start = guard .before .before .before .before .before .before .before in
+    let args = start .args in
+    byte-answers _ (args .b) (args .mark) (args .m) _ _ (step .step-guarded .result) (long start)
+    (guard .guard .ensures) (step .step-guarded .ensures) (ended .before .store .ensures) (ended .line-end .ensures)
+    (rw (sub-zero (ended .line-end .result)) at (done .end-guarded .ensures))
 
 pub take-byte-spec : {M : Type 1} → statement M
 take-byte-spec =
     tie.close
     (tie.spec
     guard-requires
-    enum-told
-    fed-byte-requires
-    enum-known-refused
-    untouched-requires
+    step-guarded-requires
+    store-requires
+    line-end-requires
+    sub-end-guarded
+    part-end-guarded-start
+    part-end-guarded-end
+    end-guarded-requires
     same-length
     same-length-2
     same-length-3
-    returns
-    returns-2)
+    returns)

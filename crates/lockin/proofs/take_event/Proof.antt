@@ -1,21 +1,15 @@
--- `lockin::take_event` meets its contract: guarded by 11 and 9. Assumes nothing.
-use mathlib.Core.Path.{refl, sym, _∙_}
+-- `lockin::take_event` meets its contract: its parts are what the call is. Assumes nothing.
+use mathlib.Core.Path.{refl}
 use borrow.Author.Needs.{needs}
-use Rattle.lockin.specs.Calls.{guardedEvent, eventCall}
+use Rattle.lockin.proofs.Parts.{event-happens}
 use Rattle.lockin.proofs.take_event.Statement.{statement}
 use Rattle.lockin.proofs.take_event.Tie as tie
 
 guard-requires : tie.Need-guard-requires
 guard-requires c κs = search needs
 
-enum-told : tie.Need-enum-told
-enum-told c = search needs
-
-happened-requires : tie.Need-happened-requires
-happened-requires c κs = search needs
-
-enum-known-refused : tie.Need-enum-known-refused
-enum-known-refused c = search needs
+occur-guarded-requires : tie.Need-occur-guarded-requires
+occur-guarded-requires c κs = search needs
 
 same-length : tie.Need-same-length
 same-length c = search needs
@@ -24,22 +18,12 @@ same-length-2 : tie.Need-same-length-2
 same-length-2 c = search needs
 
 returns : tie.Need-returns
-unfolding eventCall guardedEvent
-returns c = rw (sym (c .before .before .before .before .before .before .before .before .before .guard .ensures) ∙ c .before .before .before .before .before .before .before .enum-told .given .1) (c .before .before .before .before .happened .ensures)
-
-returns-2 : tie.Need-returns-2
-unfolding eventCall guardedEvent
-returns-2 c = rw (sym (c .before .before .before .guard .ensures) ∙ c .before .refused .given .1) (record { after = refl; outcome = refl; first = refl; second = refl })
+returns c =
+    let occurred = c .before .before .before .before .before in
+    let guard = occurred .before .before .before in
+    let args = guard .before .before .before .before .before .before .before .args in
+    event-happens (args .e) (args .m) _ _ (guard .guard .ensures) (occurred .occur-guarded .ensures)
 
 pub take-event-spec : {M : Type 1} → statement M
 take-event-spec =
-    tie.close
-    (tie.spec
-    guard-requires
-    enum-told
-    happened-requires
-    enum-known-refused
-    same-length
-    same-length-2
-    returns
-    returns-2)
+    tie.close (tie.spec guard-requires occur-guarded-requires same-length same-length-2 returns)

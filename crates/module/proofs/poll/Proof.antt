@@ -13,7 +13,7 @@ status-between-requires c κs = search needs
 
 returns : tie.Need-returns
 unfolding pollOf
-returns c = simp (c .status-between .ensures, sym (c .before .before .before .allowed .ensures) ∙ c .before .before .if1 .taken)
+returns c = simp (c .status-between .ensures, sym (c .before .before .allowed .ensures) ∙ c .before .if1 .taken)
 
 returns-2 : tie.Need-returns-2
 unfolding pollOf

@@ -1,84 +1,75 @@
-use Rattle.divide.proofs.Span.{within}
--- `name::find` meets its contract: what is left of the list answers as the whole. Assumes nothing.
-use Prim.Native.Nat.{_≤_, _-_}
-use mathlib.Core.Path.{_≡_, refl, sym, _∙_}
-use mathlib.Core.List.{map}
-use native.Mathlib.Omega.{arith}
-use borrow.Author.Needs.{needs}
-use borrow.Author.Tests.{eq-eqb, ne-eqb}
-use lib.ListN.{drop, getD, List·getD-map}
-use Rattle.name.specs.Names.{commands}
-use Rattle.name.specs.Word.{foundIn, foundOf}
-use Rattle.name.proofs.Words.{noName, found-step}
+-- `name::find` meets its contract: each arm gives what the list says of its number, and the last one what it says of a
+-- number that is none of these. Assumes nothing.
+use Prim.Native.Nat.{ℕ}
+use mathlib.Core.Path.{_≡_, refl, sym}
+use mathlib.Core.List.{List, [], _∷_}
+use borrow.Author.Tests.{ne-eqb}
+use Rattle.name.specs.Names.{Named, commands}
+use Rattle.name.specs.Word.{word, foundIn, foundOf}
+use Rattle.name.specs.declared.Meaning.{Meaning}
+use Rattle.name.specs.declared.Meaning.the-variants.{Unknown}
 use Rattle.name.proofs.find.Statement.{statement}
 use Rattle.name.proofs.find.Tie as tie
 
-abbrev Inv-loop : tie.InvT-loop
-Inv-loop word i₀ i = (i ≤ 40) × (foundOf word ≡ foundIn (drop i commands) word)
+-- an arm's meaning, at the arm's number
+at : {m : Meaning} {w k : ℕ} → m ≡ foundOf k → w ≡ k → m ≡ foundOf w
+at meaning key = rw key meaning
 
-abbrev μ-loop : tie.MeasureT-loop
-μ-loop word i₀ i = 40 - i
+-- what the last arm is told, after N: the number is none of the names'
+abbrev Others : Type 0 → List Named → ℕ → Type 0
+Others N [] w = N
+Others N (n ∷ ns) w = Others (N × (w ≡ word (n .name) → ⊥)) ns w
 
-loop-holds : tie.Need-loop-holds Inv-loop μ-loop
-loop-holds c = (omega arith, refl)
-
-mul-if1 : tie.Need-mul-if1 Inv-loop μ-loop
-mul-if1 c = search needs
-
-array-read-if1 : tie.Need-array-read-if1 Inv-loop μ-loop
-array-read-if1 c = search needs
-
-mul-result : tie.Need-mul-result Inv-loop μ-loop
-mul-result c = search needs
-
-array-copy-out-result : tie.Need-array-copy-out-result Inv-loop μ-loop
-array-copy-out-result c = search needs
-
-returns : tie.Need-returns Inv-loop μ-loop
-returns c =
-    let i = c .before .before .before .loop .i in
-    let w = c .before .before .before .before .args .word in
-    let e : Rattle.name.specs.Word.word (getD commands i noName .name) ≡ w = sym (List·getD-map (λ n. Rattle.name.specs.Word.word (n .name)) commands i noName) ∙ c .before .if1 .taken in
-    within (map (λ n. n .meaning) commands) _ (noName .meaning) i (c .before .before .loop-test .taken)
-    ∙ List·getD-map (λ n. n .meaning) commands i noName
-    ∙ sym (c .before .before .before .loop .inv .1 ∙ found-step w commands i (c .before .before .loop-test .taken) ∙ rw (eq-eqb _ _ e))
-
-add-i : tie.Need-add-i Inv-loop μ-loop
-add-i c = omega arith
-
-loop-less : tie.Need-loop-less Inv-loop μ-loop
-loop-less c = omega arith
-
-loop-again : tie.Need-loop-again Inv-loop μ-loop
-loop-again c =
-    let i = c .before .before .loop .i in
-    let w = c .before .before .before .args .word in (
-      omega arith,
-      c .before .before .loop .inv .1
-          ∙ found-step w commands i (c .before .loop-test .taken)
-          ∙ rw (ne-eqb (Rattle.name.specs.Word.word (getD commands i noName .name)) w
-          (λ e. c .if1 .left (List·getD-map (λ n. Rattle.name.specs.Word.word (n .name)) commands i noName ∙ e))),
-    )
-
-returns-2 : tie.Need-returns-2 Inv-loop μ-loop
+none : {N : Type 0} (ns : List Named) (w : ℕ) → Others N ns w → N × (foundIn ns w ≡ Unknown)
 unfolding foundIn
-returns-2 c =
-    let e : c .before .loop .i ≡ 40 = omega arith in
-    sym (c .before .loop .inv .1 ∙ rw e)
+none [] w others = (others, refl)
+none (n ∷ ns) w others =
+    let rest = none ns w others in
+    (rest .0 .0, rw (ne-eqb (word (n .name)) w (λ e. rest .0 .1 (sym e)), rest .1))
 
 pub find-spec : {M : Type 1} → statement M
+unfolding foundIn
 find-spec =
     tie.close
     (tie.spec
-    Inv-loop
-    μ-loop
-    loop-holds
-    mul-if1
-    array-read-if1
-    mul-result
-    array-copy-out-result
-    returns
-    add-i
-    loop-less
-    loop-again
-    returns-2)
+    (λ c. at refl (c .match .keys1))
+    (λ c. at refl (c .match .keys2))
+    (λ c. at refl (c .match .keys3))
+    (λ c. at refl (c .match .keys4))
+    (λ c. at refl (c .match .keys5))
+    (λ c. at refl (c .match .keys6))
+    (λ c. at refl (c .match .keys7))
+    (λ c. at refl (c .match .keys8))
+    (λ c. at refl (c .match .keys9))
+    (λ c. at refl (c .match .keys10))
+    (λ c. at refl (c .match .keys11))
+    (λ c. at refl (c .match .keys12))
+    (λ c. at refl (c .match .keys13))
+    (λ c. at refl (c .match .keys14))
+    (λ c. at refl (c .match .keys15))
+    (λ c. at refl (c .match .keys16))
+    (λ c. at refl (c .match .keys17))
+    (λ c. at refl (c .match .keys18))
+    (λ c. at refl (c .match .keys19))
+    (λ c. at refl (c .match .keys20))
+    (λ c. at refl (c .match .keys21))
+    (λ c. at refl (c .match .keys22))
+    (λ c. at refl (c .match .keys23))
+    (λ c. at refl (c .match .keys24))
+    (λ c. at refl (c .match .keys25))
+    (λ c. at refl (c .match .keys26))
+    (λ c. at refl (c .match .keys27))
+    (λ c. at refl (c .match .keys28))
+    (λ c. at refl (c .match .keys29))
+    (λ c. at refl (c .match .keys30))
+    (λ c. at refl (c .match .keys31))
+    (λ c. at refl (c .match .keys32))
+    (λ c. at refl (c .match .keys33))
+    (λ c. at refl (c .match .keys34))
+    (λ c. at refl (c .match .keys35))
+    (λ c. at refl (c .match .keys36))
+    (λ c. at refl (c .match .keys37))
+    (λ c. at refl (c .match .keys38))
+    (λ c. at refl (c .match .keys39))
+    (λ c. at refl (c .match .keys40))
+    (λ c. sym (none commands (c .before .args .word) (c .match .rest) .1)))

@@ -6,16 +6,21 @@ use Rattle.ops.proofs.main.Statement.{statement}
 use Rattle.ops.proofs.main.Tie as tie
 
 abbrev Inv-loop : tie.InvT-loop
-Inv-loop chunk₀ line₀ one₀ two₀ latest₀ next₀ turns₀ chunk line one two latest next turns = (65536 ≡ length chunk) × (131072 ≡ length line) × (16384 ≡ length one) × (16384 ≡ length two)
+Inv-loop chunk₀ line₀ bytes₀ one₀ two₀ latest₀ next₀ turns₀ chunk line bytes one two latest next turns =
+    (65536 ≡ length chunk) × (131072 ≡ length line) × (65536 ≡ length bytes)
+    × (16384 ≡ length one) × (16384 ≡ length two)
 
 abbrev μ-loop : tie.MeasureT-loop
-μ-loop chunk₀ line₀ one₀ two₀ latest₀ next₀ turns₀ chunk line one two latest next turns = turns
+μ-loop chunk₀ line₀ bytes₀ one₀ two₀ latest₀ next₀ turns₀ chunk line bytes one two latest next turns = turns
 
 large-buffer-requires : tie.Need-large-buffer-requires Inv-loop μ-loop
 large-buffer-requires c κs = search needs
 
 line-buffer-requires : tie.Need-line-buffer-requires Inv-loop μ-loop
 line-buffer-requires c κs = search needs
+
+large-buffer-requires-2 : tie.Need-large-buffer-requires-2 Inv-loop μ-loop
+large-buffer-requires-2 c κs = search needs
 
 trace-buffer-requires : tie.Need-trace-buffer-requires Inv-loop μ-loop
 trace-buffer-requires c κs = search needs
@@ -50,6 +55,9 @@ slice-aggregate-take-line-2 c = search needs
 slice-aggregate-take-line-3 : tie.Need-slice-aggregate-take-line-3 Inv-loop μ-loop
 slice-aggregate-take-line-3 c = search needs
 
+slice-aggregate-take-line-4 : tie.Need-slice-aggregate-take-line-4 Inv-loop μ-loop
+slice-aggregate-take-line-4 c = search needs
+
 take-line-requires : tie.Need-take-line-requires Inv-loop μ-loop
 take-line-requires c κs = search needs
 
@@ -76,6 +84,7 @@ main-spec =
     μ-loop
     large-buffer-requires
     line-buffer-requires
+    large-buffer-requires-2
     trace-buffer-requires
     trace-buffer-requires-2
     refused-requires
@@ -87,6 +96,7 @@ main-spec =
     slice-aggregate-take-line
     slice-aggregate-take-line-2
     slice-aggregate-take-line-3
+    slice-aggregate-take-line-4
     take-line-requires
     returns
     sub-turns

@@ -1,0 +1,64 @@
+-- `queue::sixteen_end_none` meets its contract: the bytes passed end no line where the test so far holds.
+-- Assumes nothing.
+use Prim.Native.Nat.{ℕ, _+_, _≤_, _-_}
+use mathlib.Core.Path.{_≡_, refl, sym, _∙_}
+use mathlib.Core.Bool.{true}
+use native.Mathlib.Omega.{arith}
+use borrow.Author.Needs.{needs}
+use lib.ListN.{length}
+use Rattle.queue.specs.Parts.{EndNone}
+use Rattle.queue.proofs.Waiting.{none-more}
+use Rattle.queue.proofs.sixteen_end_none.Statement.{statement}
+use Rattle.queue.proofs.sixteen_end_none.Tie as tie
+
+abbrev Inv-loop : tie.InvT-loop
+Inv-loop bytes at port none₀ k₀ none k = (k ≤ 16) × (none ≡ true → EndNone port bytes at k)
+
+abbrev μ-loop : tie.MeasureT-loop
+μ-loop bytes at port none₀ k₀ none k = 16 - k
+
+loop-holds : tie.Need-loop-holds Inv-loop μ-loop
+loop-holds c = (omega arith, λ e k h. absurd (omega arith))
+
+add-ends-line : tie.Need-add-ends-line Inv-loop μ-loop
+add-ends-line c = search needs
+
+element-copy-out-ends-line : tie.Need-element-copy-out-ends-line Inv-loop μ-loop
+element-copy-out-ends-line c = search needs
+
+ends-line-requires : tie.Need-ends-line-requires Inv-loop μ-loop
+ends-line-requires c κs = search needs
+
+add-k : tie.Need-add-k Inv-loop μ-loop
+add-k c = search needs
+
+loop-less : tie.Need-loop-less Inv-loop μ-loop
+loop-less c = search needs
+
+loop-again : tie.Need-loop-again Inv-loop μ-loop
+loop-again c =
+    let turn = c .before .before .before in
+    let a = turn .before .args in
+    let v = turn .loop in
+    let ends = c .ends-line in (
+      omega arith,
+      none-more (a .port) (a .bytes .now) (a .at) (v .k) (v .none) (ends .result) (v .inv .1) (ends .ensures),
+    )
+
+returns : tie.Need-returns Inv-loop μ-loop
+returns c = let e : c .before .loop .k ≡ 16 = omega arith in rw e at (c .before .loop .inv .1)
+
+pub sixteen-end-none-spec : {M : Type 1} → statement M
+sixteen-end-none-spec =
+    tie.close
+    (tie.spec
+    Inv-loop
+    μ-loop
+    loop-holds
+    add-ends-line
+    element-copy-out-ends-line
+    ends-line-requires
+    add-k
+    loop-less
+    loop-again
+    returns)

@@ -1,0 +1,39 @@
+-- The parts in which the code takes a byte and tests a queue, each told by what `Queue` defines. No promise of a public
+-- call speaks of these.
+use Prim.Native.Nat.{ℕ, _+_, _<_}
+use mathlib.Core.Path.{_≡_}
+use mathlib.Core.Bool.{Bool, false, cond, _&&_}
+use mathlib.Core.List.{List}
+use lib.Dec.{ltb}
+use lib.ListN.{set, getD}
+use Rattle.queue.specs.Queue.{lineLimit, endsLine, emptiedOf, fedOf}
+use Rattle.queue.specs.declared.Queue.{Queue}
+use Rattle.queue.specs.declared.QueueStep.{QueueStep}
+use Rattle.queue.specs.declared.Ended.{Ended}
+use Rattle.queue.specs.declared.Ended.the-variants.{Nothing, Line, TooLong}
+
+-- a queue of its parts
+abbrev pub queueOf : List ℕ → ℕ → Bool → Queue
+queueOf bytes len dropping = record { bytes = bytes; len = len; dropping = dropping }
+
+-- the bytes with one more at a place, where it is stored
+abbrev pub storedIn : Bool → ℕ → ℕ → List ℕ → List ℕ
+storedIn stores at b bytes = cond (stores && ltb at lineLimit) (set bytes at b) bytes
+
+-- the queue once a line that ended has run
+abbrev pub afterRun : Ended → Queue → Queue
+afterRun Nothing q = q
+afterRun Line q = emptiedOf q
+afterRun TooLong q = q
+
+-- r tells what a byte does to every queue of so many bytes: fed, what it makes of the queue and what it brings about;
+-- run, the queue once a line that ended has run
+pub record Steps (len : ℕ) (dropping : Bool) (port b : ℕ) (mark : Bool) (r : QueueStep) : Type 0 where
+  pub fed : (bytes : List ℕ) → fedOf (queueOf bytes len dropping) port b mark
+      ≡ record { queue = queueOf (storedIn (r .stores) len b bytes) (r .line) (r .dropping); ended = r .ended }
+  pub run : (bytes : List ℕ) → afterRun (r .ended) (queueOf bytes (r .line) (r .dropping))
+      ≡ queueOf bytes (r .len) (r .dropping)
+
+-- none of n bytes from a place on ends a line
+abbrev pub EndNone : ℕ → List ℕ → ℕ → ℕ → Type 0
+EndNone port bytes at n = (k : ℕ) → k < n → endsLine port (getD bytes (at + k) 0) ≡ false
