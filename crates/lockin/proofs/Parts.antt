@@ -14,7 +14,7 @@ use Rattle.refusal.specs.declared.Answer.{Answer}
 use Rattle.refusal.specs.Answer.{toldOf}
 use Rattle.state.specs.declared.State.{State}
 use Rattle.queue.specs.Queue.{lineLimit, waitingBytes}
-use Rattle.queue.specs.Parts.{queueOf, storedIn, afterRun, Steps}
+use Rattle.queue.specs.Parts.{queueOf, storedIn, afterRun}
 use Rattle.queue.specs.declared.Queue.{Queue}
 use Rattle.queue.specs.declared.QueueStep.{QueueStep}
 use Rattle.queue.specs.declared.Ended.{Ended}

@@ -14,7 +14,8 @@ use Rattle.refusal.specs.declared.Told.{Told}
 use Rattle.refusal.specs.Answer.{toldOf}
 use Rattle.state.specs.State.{markedBy}
 use Rattle.state.specs.declared.State.{State}
-use Rattle.queue.specs.Parts.{Steps}
+use Rattle.queue.specs.Queue.{fedOf}
+use Rattle.queue.specs.Parts.{queueOf, Tells}
 use Rattle.queue.specs.declared.QueueStep.{QueueStep}
 use Rattle.queue.specs.declared.Ended.{Ended}
 use Rattle.queue.specs.declared.Ended.the-variants as ended
@@ -72,7 +73,8 @@ wholeEnd len = cond (leb len 256) ended.Line ended.TooLong
 
 -- what a byte does to the queue's numbers: nothing where it is refused
 unfoldable pub GuardedStep : Outcome → ℕ → Bool → ℕ → ℕ → Bool → QueueStep → Type 0
-GuardedStep outcome.Done len dropping port b mark r = Steps len dropping port b mark r
+GuardedStep outcome.Done len dropping port b mark r =
+    Tells (λ bytes. fedOf (queueOf bytes len dropping) port b mark) len b r
 GuardedStep (outcome.Refused x) len dropping port b mark r =
     r ≡ record { stores = false; line = len; len = len; dropping = dropping; ended = ended.Nothing }
 

@@ -6,7 +6,7 @@ use mathlib.Core.Bool.{Bool, false, cond, _&&_}
 use mathlib.Core.List.{List}
 use lib.Dec.{ltb}
 use lib.ListN.{set, getD}
-use Rattle.queue.specs.Queue.{lineLimit, endsLine, emptiedOf, fedOf}
+use Rattle.queue.specs.Queue.{Fed, lineLimit, endsLine, emptiedOf}
 use Rattle.queue.specs.declared.Queue.{Queue}
 use Rattle.queue.specs.declared.QueueStep.{QueueStep}
 use Rattle.queue.specs.declared.Ended.{Ended}
@@ -26,10 +26,10 @@ afterRun Nothing q = q
 afterRun Line q = emptiedOf q
 afterRun TooLong q = q
 
--- r tells what a byte does to every queue of so many bytes: fed, what it makes of the queue and what it brings about;
--- run, the queue once a line that ended has run
-pub record Steps (len : ℕ) (dropping : Bool) (port b : ℕ) (mark : Bool) (r : QueueStep) : Type 0 where
-  pub fed : (bytes : List ℕ) → fedOf (queueOf bytes len dropping) port b mark
+-- r tells what a byte b does to every queue of len bytes, where result gives the queue after it and what it brings
+-- about: fed, that result; run, the queue once a line that ended has run
+pub record Tells (result : List ℕ → Fed) (len b : ℕ) (r : QueueStep) : Type 0 where
+  pub fed : (bytes : List ℕ) → result bytes
       ≡ record { queue = queueOf (storedIn (r .stores) len b bytes) (r .line) (r .dropping); ended = r .ended }
   pub run : (bytes : List ℕ) → afterRun (r .ended) (queueOf bytes (r .line) (r .dropping))
       ≡ queueOf bytes (r .len) (r .dropping)

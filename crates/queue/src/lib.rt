@@ -1,10 +1,10 @@
 // The queue of bytes that wait for their line's end.
 ghost use mathlib.Core.Path.{_≡_};
-ghost use mathlib.Core.Bool.{true};
+ghost use mathlib.Core.Bool.{true, false};
 ghost use Prim.Native.Nat.{_≤_, min};
 ghost use lib.ListN.{length, take, drop};
-ghost use Rattle.queue.specs.Queue.{emptyQueue, endsLine, isMarked, noEnd, keepsOf};
-ghost use Rattle.queue.specs.Parts.{queueOf, storedIn, Steps, EndNone};
+ghost use Rattle.queue.specs.Queue.{emptyQueue, endsLine, isMarked, addedOf, fedOf, noEnd, keepsOf};
+ghost use Rattle.queue.specs.Parts.{queueOf, storedIn, Tells, EndNone};
 use clean::LINE;
 
 // The port RS232; any other number is GPIB.
@@ -70,30 +70,10 @@ fn is_marked(port: u8, mark: bool) -> bool
     false
 }
 
-// A byte, with its end mark or not, and a queue of so many bytes: they are neither read nor copied.
-pub fn step_of(len: usize, dropping: bool, port: u8, b: u8, mark: bool) -> QueueStep
-    ensures { λ r. ⌜ Steps len dropping port b mark r ⌝ }
+// A byte that is no line end of its own, behind so many bytes: the line's last one where it is marked.
+fn added(len: usize, b: u8, marked: bool) -> QueueStep
+    ensures { λ r. ⌜ Tells (λ bytes. addedOf (queueOf bytes len false) b marked) len b r ⌝ }
 {
-    let ends = ends_line(port, b);
-    let marked = is_marked(port, mark);
-    if dropping {
-        return QueueStep {
-            stores: false,
-            line: len,
-            len,
-            dropping: !(ends | marked),
-            ended: Ended::Nothing,
-        };
-    }
-    if ends {
-        return QueueStep {
-            stores: false,
-            line: len,
-            len: 0,
-            dropping: false,
-            ended: Ended::Line,
-        };
-    }
     if LINE <= len {
         return QueueStep {
             stores: false,
@@ -119,6 +99,33 @@ pub fn step_of(len: usize, dropping: bool, port: u8, b: u8, mark: bool) -> Queue
         dropping: false,
         ended: Ended::Nothing,
     }
+}
+
+// A byte, with its end mark or not, and a queue of so many bytes: they are neither read nor copied.
+pub fn step_of(len: usize, dropping: bool, port: u8, b: u8, mark: bool) -> QueueStep
+    ensures { λ r. ⌜ Tells (λ bytes. fedOf (queueOf bytes len dropping) port b mark) len b r ⌝ }
+{
+    let ends = ends_line(port, b);
+    let marked = is_marked(port, mark);
+    if dropping {
+        return QueueStep {
+            stores: false,
+            line: len,
+            len,
+            dropping: !(ends | marked),
+            ended: Ended::Nothing,
+        };
+    }
+    if ends {
+        return QueueStep {
+            stores: false,
+            line: len,
+            len: 0,
+            dropping: false,
+            ended: Ended::Line,
+        };
+    }
+    added(len, b, marked)
 }
 
 // Stores a byte behind the first `at`, where it is to be stored.

@@ -1,8 +1,7 @@
 -- `queue::step_of` meets its contract: each return by the tests on the way. Assumes nothing.
 use mathlib.Core.Path.{refl, sym, _∙_}
 use borrow.Author.Needs.{needs}
-use borrow.Author.Tests.{lt-ltb, le-ltb}
-use Rattle.queue.specs.Queue.{fedOf, droppedOf, addedOf, tooLongOf}
+use Rattle.queue.specs.Queue.{fedOf, droppedOf}
 use Rattle.queue.proofs.step_of.Statement.{statement}
 use Rattle.queue.proofs.step_of.Tie as tie
 
@@ -30,8 +29,11 @@ returns-2 c =
       run = λ bytes. refl;
     }
 
+added-requires : tie.Need-added-requires
+added-requires c κs = search needs
+
 returns-3 : tie.Need-returns-3
-unfolding fedOf addedOf tooLongOf
+unfolding fedOf
 returns-3 c =
     let ends = c .before in
     let marks = ends .before .before in
@@ -40,68 +42,13 @@ returns-3 c =
           rw (
             ends .before .if1 .left,
             sym (marks .before .ends-line .ensures) ∙ ends .if2 .left,
-            le-ltb _ _ (c .if3 .taken),
-            marks .is-marked .ensures,
-          );
-      run = λ bytes. refl;
-    }
-
-add-t15 : tie.Need-add-t15
-add-t15 c = search needs
-
-returns-4 : tie.Need-returns-4
-unfolding fedOf addedOf
-returns-4 c =
-    let fits = c .before in
-    let ends = fits .before in
-    let marks = ends .before .before in
-    let room = lt-ltb _ _ (fits .if3 .left) in
-    record {
-      fed = λ bytes.
-          rw (
-            ends .before .if1 .left,
-            sym (marks .before .ends-line .ensures) ∙ ends .if2 .left,
-            room,
-            sym (marks .is-marked .ensures) ∙ c .if4 .taken,
-          );
-      run = λ bytes. refl;
-    }
-
-add-t17 : tie.Need-add-t17
-add-t17 c = search needs
-
-add-t18 : tie.Need-add-t18
-add-t18 c = search needs
-
-returns-5 : tie.Need-returns-5
-unfolding fedOf addedOf
-returns-5 c =
-    let fits = c .before in
-    let ends = fits .before in
-    let marks = ends .before .before in
-    let room = lt-ltb _ _ (fits .if3 .left) in
-    record {
-      fed = λ bytes.
-          rw (
-            ends .before .if1 .left,
-            sym (marks .before .ends-line .ensures) ∙ ends .if2 .left,
-            room,
-            sym (marks .is-marked .ensures) ∙ c .if4 .left,
-          );
-      run = λ bytes. refl;
+            ← marks .is-marked .ensures,
+          )
+          (c .added .ensures .fed bytes);
+      run = c .added .ensures .run;
     }
 
 pub step-of-spec : {M : Type 1} → statement M
 step-of-spec =
     tie.close
-    (tie.spec
-    ends-line-requires
-    is-marked-requires
-    returns
-    returns-2
-    returns-3
-    add-t15
-    returns-4
-    add-t17
-    add-t18
-    returns-5)
+    (tie.spec ends-line-requires is-marked-requires returns returns-2 added-requires returns-3)
