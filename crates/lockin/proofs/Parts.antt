@@ -20,7 +20,7 @@ use Rattle.queue.specs.declared.QueueStep.{QueueStep}
 use Rattle.queue.specs.declared.Ended.{Ended}
 use Rattle.queue.specs.declared.Ended.the-variants as ended
 use Rattle.reply.proofs.Over.{over-none}
-use Rattle.event.specs.Event.{eventOf, Occurs}
+use Rattle.event.specs.Event.{Occurred, eventOf, Occurs}
 use Rattle.event.specs.declared.Event.{Event}
 use Rattle.event.specs.declared.Happened.{Happened}
 use Rattle.module.specs.Module.{guardOf}
@@ -149,16 +149,16 @@ byte-answers room b mark m one two step {o = o} {bytes = bytes} long guard stepp
 
 -- ---- an event
 
+happens-with : {o : Occurred} {h : Happened} {one two : List ℕ} (q : Queue) → Occurs o h one two →
+    Happens (occurred o q) (record { after = record { queue = q; state = h .state }; outcome = h .outcome }) one two
+happens-with q h = record { after = rw (h .state); outcome = h .outcome; first = h .first; second = h .second }
+
 module _ (e : Event) (m : Module) (one two : List ℕ) where
-  guarded-event : (o : Outcome) {h : Happened} {one′ two′ : List ℕ} →
-      Occurs (guardedOccurred o (eventOf e (m .state) one two) (m .state) one two) h one′ two′ →
-      Happens (guardedEvent o (occurred (eventOf e (m .state) one two) (m .queue)) m one two)
-      (record { after = record { queue = m .queue; state = h .state }; outcome = h .outcome }) one′ two′
+  guarded-event : (o : Outcome) → guardedEvent o (occurred (eventOf e (m .state) one two) (m .queue)) m one two
+      ≡ occurred (guardedOccurred o (eventOf e (m .state) one two) (m .state) one two) (m .queue)
   unfolding guardedOccurred guardedEvent
-  guarded-event outcome.Done h =
-      record { after = rw (h .state); outcome = h .outcome; first = h .first; second = h .second }
-  guarded-event (outcome.Refused r) h =
-      record { after = rw (h .state); outcome = h .outcome; first = h .first; second = h .second }
+  guarded-event outcome.Done = refl
+  guarded-event (outcome.Refused r) = refl
 
   -- the code's parts, each as its function says, are what the event's call is
   pub event-happens : {o : Outcome} {h : Happened} {one′ two′ : List ℕ} → o ≡ guardOf m (length one) (length two) →
@@ -166,4 +166,4 @@ module _ (e : Event) (m : Module) (one two : List ℕ) where
       Happens (eventCall e m one two)
       (record { after = record { queue = m .queue; state = h .state }; outcome = h .outcome }) one′ two′
   unfolding eventCall
-  event-happens {o = o} guard h = rw (← guard) (guarded-event o h)
+  event-happens {o = o} guard h = rw (← guard, guarded-event o) (happens-with (m .queue) h)

@@ -1,12 +1,12 @@
 -- A line's bytes, fed one at a time, wait in their order, and never more than 256 wait. Assumes nothing.
 use Prim.Native.Nat.{ℕ, _+_, _≤_, _<_}
 use mathlib.Core.Path.{_≡_, refl, sym, ap, _∙_}
-use mathlib.Core.Bool.{Bool, true, false, cond, not, and-eq-true-iff, false≢true}
+use mathlib.Core.Bool.{Bool, true, false, cond, not, and-eq-true-iff}
 use mathlib.Core.List.{List, [], _∷_, _++_, append-nil, append-assoc}
 use native.Mathlib.Omega.{arith}
 use lib.Dec.{ltb}
 use lib.ListN.{length, length-take, length-set}
-use borrow.Author.Tests.{ltb-true, ltb-false}
+use borrow.Author.Tests.{ltb-true, ltb-false, not-true}
 use Rattle.queue.specs.declared.Queue.{Queue}
 use Rattle.queue.specs.declared.Ended.the-variants.{Nothing, Line}
 use Rattle.queue.specs.Queue.{Fed, lineLimit, longer, waitingBytes, endsLine, isMarked, noEnd, keepsOf}
@@ -74,10 +74,6 @@ fed-bytes q port b mark = by (q .dropping) (endsLine port b) refl refl
 unfoldable pub fedAll : Queue → ℕ → List ℕ → Queue
 fedAll q port [] = q
 fedAll q port (b ∷ bs) = fedAll (fedOf q port b false .queue) port bs
-
-not-true : (t : Bool) → not t ≡ true → t ≡ false
-not-true true e = absurd (false≢true e)
-not-true false e = refl
 
 -- bytes that are no line end, and fit, wait behind those that were there
 pub line-waits : (q : Queue) (port : ℕ) (bs : List ℕ) → q .dropping ≡ false → noEnd port bs ≡ true → q .len + length bs ≤ lineLimit

@@ -1,14 +1,14 @@
 -- The bytes that wait, read one after the other, and with one byte more. Assumes nothing.
 use Prim.Native.Nat.{ℕ, zero, suc, _+_, _≤_, _<_}
 use mathlib.Core.Path.{_≡_, refl, sym, _∙_}
-use mathlib.Core.Bool.{Bool, true, false, not, _&&_, and-eq-true-iff, false≢true}
+use mathlib.Core.Bool.{Bool, true, false, not, _&&_, and-eq-true-iff}
 use mathlib.Core.List.{List, [], _∷_, _++_}
 use native.Mathlib.Omega.{arith}
 use native.Mathlib.Numerals.{add-one}
 use lib.ListN.{length, take, drop, getD, drop-of-length-le}
 use lib.Seq.{drop-cons, getD-take, take-suc-set, length-take-le}
 use lib.Dec.{ltb, eqb}
-use borrow.Author.Tests.{ltb-true, ltb-false, eqb-true, eqb-false}
+use borrow.Author.Tests.{ltb-true, ltb-false, eqb-true, eqb-false, not-true}
 use Rattle.queue.specs.declared.Queue.{Queue}
 use Rattle.queue.specs.Queue.{longer, waitingBytes, endsLine, noEnd}
 use Rattle.queue.specs.Parts.{EndNone}
@@ -33,21 +33,27 @@ module _ (port : ℕ) (bytes : List ℕ) (len i : ℕ) (fits : len ≤ length by
   unfolding noEnd
   rest-none h = rw (drop-of-length-le (take len bytes) {i = i} (omega (arith, length-take-le len bytes fits)))
 
--- one byte more that ends none, by the test so far and its own
-module _ (port : ℕ) (bytes : List ℕ) (at k : ℕ) (none ends : Bool) where
-  off : (t : Bool) → not t ≡ true → t ≡ false
-  off true e = absurd (false≢true e)
-  off false e = refl
+-- the test of bytes so far is exact: it holds where they end no line, and only there
+abbrev pub Exactly : ℕ → List ℕ → ℕ → ℕ → Bool → Type 0
+Exactly port bytes at k none = (none ≡ true → EndNone port bytes at k) × (EndNone port bytes at k → none ≡ true)
 
-  pub none-more : (none ≡ true → EndNone port bytes at k) → ends ≡ endsLine port (getD bytes (at + k) 0) →
-      none && not ends ≡ true → EndNone port bytes at (k + 1)
-  none-more so own both j h = by (eqb j k) refl where
+-- one byte more, by the test so far and its own
+module _ (port : ℕ) (bytes : List ℕ) (at k : ℕ) (none ends : Bool) (so : Exactly port bytes at k none)
+    (own : ends ≡ endsLine port (getD bytes (at + k) 0)) where
+  holds : none && not ends ≡ true → EndNone port bytes at (k + 1)
+  holds both j h = by (eqb j k) refl where
     parts : (none ≡ true) × (not ends ≡ true)
     parts = and-eq-true-iff none (not ends) .0 both
 
     by : (t : Bool) → eqb j k ≡ t → endsLine port (getD bytes (at + j) 0) ≡ false
-    by true e = rw (eqb-true j k e) (sym own ∙ off ends (parts .1))
-    by false e = so (parts .0) j (omega (arith, eqb-false j k e))
+    by true e = rw (eqb-true j k e) (sym own ∙ not-true ends (parts .1))
+    by false e = so .0 (parts .0) j (omega (arith, eqb-false j k e))
+
+  only : EndNone port bytes at (k + 1) → none && not ends ≡ true
+  only clear = rw (so .1 (λ j h. clear j (omega arith)), own, clear k (omega arith))
+
+  pub none-more : Exactly port bytes at (k + 1) (none && not ends)
+  none-more = (holds, only)
 
 -- some bytes that end none, of which the last may lie past those that wait
 module _ (port : ℕ) (bytes : List ℕ) (len i : ℕ) (fits : len ≤ length bytes) where

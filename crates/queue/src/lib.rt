@@ -152,7 +152,8 @@ pub fn line_end(len: usize) -> usize
 // Whether none of sixteen bytes ends a line. No byte ends the loop early: so all sixteen are tested at once.
 fn sixteen_end_none(bytes: &[u8; LINE], at: usize, port: u8) -> bool
     requires { ⌜ at ≤ 240 ⌝ }
-    ensures { λ r. ⌜ (r ≡ true → EndNone port (now (bytes .entry)) at 16) ⌝ }
+    ensures { λ r. ⌜ (r ≡ true → EndNone port (now (bytes .entry)) at 16)
+        × (EndNone port (now (bytes .entry)) at 16 → r ≡ true) ⌝ }
 {
     let mut none = true;
     let mut k = 0;

@@ -1,12 +1,9 @@
 -- Laws on the table: a rule of its rows is one test that computes. Assumes nothing.
-use Prim.Native.Nat.{ℕ, zero, suc, _+_, _<_, _≤_}
-use mathlib.Core.Path.{_≡_, refl, ap, _∙_}
+use Prim.Native.Nat.{ℕ, zero, suc, _+_, _≤_}
 use mathlib.Core.Bool.{Bool, true, false, cond, _&&_}
-use mathlib.Core.List.{List, [], _∷_, map}
-use native.Mathlib.Nat.{le-of-suc-le-suc, not-suc-le-zero}
-use native.Mathlib.Omega.{arith}
+use mathlib.Core.List.{List, [], _∷_}
 use lib.Dec.{T, leb, ltb, eqb, leb→le}
-use lib.ListN.{length, getD}
+use lib.ListN.{getD}
 use Rattle.settings.specs.Table.{table, rowOf, noRow, freq}
 use Rattle.settings.specs.Frequency.{hertz, stepBy, frequencyStep}
 use Rattle.settings.specs.Setting.{stepOf}

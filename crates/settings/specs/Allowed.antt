@@ -1,9 +1,9 @@
 -- The settings that a state may have: refusal 11, "a state outside the ranges, steps and limits above".
 use Prim.Native.Nat.{ℕ, zero, suc, _%_}
-use mathlib.Core.Bool.{Bool, true, cond, _&&_}
+use mathlib.Core.Bool.{Bool, true, _&&_}
 use lib.Dec.{leb, eqb}
-use Rattle.settings.specs.Table.{entries, freq, oflt, rowOf, valueOf}
-use Rattle.settings.specs.Frequency.{frequencyStep, detectionOf, withinLimit, timeConstantStands, frequencyInRange}
+use Rattle.settings.specs.Table.{entries, oflt, rowOf, valueOf}
+use Rattle.settings.specs.Frequency.{detectionOf, withinLimit, timeConstantStands, frequencyInRange}
 use Rattle.settings.specs.Setting.{stepOf}
 use Rattle.settings.specs.declared.Settings.{Settings}
 

@@ -1,5 +1,4 @@
 -- `lockin::step_guarded` meets its contract: by whether it is refused. Assumes nothing.
-use mathlib.Core.Path.{refl}
 use borrow.Author.Needs.{needs}
 use Rattle.lockin.specs.Parts.{GuardedStep}
 use Rattle.lockin.proofs.step_guarded.Statement.{statement}

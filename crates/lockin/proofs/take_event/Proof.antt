@@ -1,5 +1,4 @@
 -- `lockin::take_event` meets its contract: its parts are what the call is. Assumes nothing.
-use mathlib.Core.Path.{refl}
 use borrow.Author.Needs.{needs}
 use Rattle.lockin.proofs.Parts.{event-happens}
 use Rattle.lockin.proofs.take_event.Statement.{statement}

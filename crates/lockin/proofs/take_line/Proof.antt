@@ -1,5 +1,4 @@
 -- `lockin::take_line` meets its contract: its parts answer as the call does. Assumes nothing.
-use mathlib.Core.Path.{refl}
 use native.Mathlib.Nat.{sub-zero}
 use borrow.Author.Needs.{needs}
 use Rattle.lockin.proofs.Parts.{line-answers}

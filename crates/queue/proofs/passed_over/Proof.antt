@@ -1,7 +1,6 @@
 -- `queue::passed_over` meets its contract: what is left decides, at each place passed. Assumes nothing.
 use Prim.Native.Nat.{_-_}
-use mathlib.Core.Path.{_≡_, refl, sym, _∙_}
-use native.Mathlib.Omega.{arith}
+use mathlib.Core.Path.{_≡_, refl, _∙_}
 use borrow.Author.Needs.{needs}
 use lib.ListN.{take, drop}
 use Rattle.queue.specs.Queue.{noEnd}
@@ -38,7 +37,7 @@ loop-again c =
     let s = c .before .before .before .before .before in
     let a = s .args in
     let v = c .before .before .before .before .loop in
-    let none = c .before .sixteen-end-none .ensures (c .if2 .taken) in
+    let none = c .before .sixteen-end-none .ensures .0 (c .if2 .taken) in
     rest-skips (a .port) (a .bytes .now) (a .len) (v .i) (s .pre) 16 none ∙ v .inv
 
 returns-3 : tie.Need-returns-3 Inv-loop μ-loop

@@ -1,24 +1,20 @@
--- `queue::sixteen_end_none` meets its contract: the bytes passed end no line where the test so far holds.
--- Assumes nothing.
-use Prim.Native.Nat.{ℕ, _+_, _≤_, _-_}
-use mathlib.Core.Path.{_≡_, refl, sym, _∙_}
-use mathlib.Core.Bool.{true}
+-- `queue::sixteen_end_none` meets its contract: the test so far is exact. Assumes nothing.
+use Prim.Native.Nat.{_≤_, _-_}
+use mathlib.Core.Path.{_≡_, refl}
 use native.Mathlib.Omega.{arith}
 use borrow.Author.Needs.{needs}
-use lib.ListN.{length}
-use Rattle.queue.specs.Parts.{EndNone}
-use Rattle.queue.proofs.Waiting.{none-more}
+use Rattle.queue.proofs.Waiting.{Exactly, none-more}
 use Rattle.queue.proofs.sixteen_end_none.Statement.{statement}
 use Rattle.queue.proofs.sixteen_end_none.Tie as tie
 
 abbrev Inv-loop : tie.InvT-loop
-Inv-loop bytes at port none₀ k₀ none k = (k ≤ 16) × (none ≡ true → EndNone port bytes at k)
+Inv-loop bytes at port none₀ k₀ none k = (k ≤ 16) × Exactly port bytes at k none
 
 abbrev μ-loop : tie.MeasureT-loop
 μ-loop bytes at port none₀ k₀ none k = 16 - k
 
 loop-holds : tie.Need-loop-holds Inv-loop μ-loop
-loop-holds c = (omega arith, λ e k h. absurd (omega arith))
+loop-holds c = (omega arith, (λ e k h. absurd (omega arith), λ clear. refl))
 
 add-ends-line : tie.Need-add-ends-line Inv-loop μ-loop
 add-ends-line c = search needs
