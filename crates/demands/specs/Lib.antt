@@ -1,4 +1,5 @@
 -- The demands on the module as a whole.
+pub mod Representable
 pub mod Allowed
 pub mod Demand1
 pub mod Written
