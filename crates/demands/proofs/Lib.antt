@@ -13,3 +13,8 @@ pub mod Kept
 pub mod Entries
 pub mod Demand2
 pub mod Lines
+pub mod Slots
+pub mod Replies
+pub mod Trigger
+pub mod History
+pub mod Points
