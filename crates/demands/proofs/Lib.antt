@@ -15,3 +15,8 @@ pub mod Parsing
 pub mod Entries
 pub mod Same
 pub mod Demand2
+pub mod Slots
+pub mod Replies
+pub mod Trigger
+pub mod History
+pub mod Points

@@ -1,8 +1,6 @@
 -- What the machine can hold: the modules, traces and events that there can be. The definitions of the calls speak of
--- numbers without end; the
--- fields of a module, the words of a trace and the values of an event have the sizes that are told here, so a claim
--- that there is such a module, trace
--- or event asks for these too.
+-- numbers without end; the fields of a module, the words of a trace and the values of an event have the sizes that are
+-- told here, so a claim that there is such a module, trace or event asks for these too.
 use Prim.Native.Nat.{ℕ, _^_, _<_}
 use mathlib.Core.Path.{_≡_}
 use mathlib.Core.List.{List, [], _∷_}
