@@ -1,20 +1,17 @@
 -- Every call keeps what the module and its traces hold of the history. Assumes nothing.
-use Prim.Native.Nat.{ℕ, _+_, _-_, _%_, _≤_, _<_}
+use Prim.Native.Nat.{ℕ, _+_, _-_, _≤_}
 use native.Mathlib.Nat.{zero-mod}
 use native.Mathlib.Omega.{arith}
 use mathlib.Core.Bool.{Bool, true, false, cond, not, and-eq-true-iff}
 use mathlib.Core.List.{List, [], _∷_, _++_}
 use mathlib.Core.Path.{_≡_, refl, sym, ap, _∙_}
-use lib.Dec.{leb, eqb}
+use lib.Dec.{eqb}
 use lib.ListN.{length, set}
 use lib.Seq.{getD-set-other}
 use borrow.Author.Tests.{eqb-true, eqb-false, eq-eqb, le-leb}
 use Rattle.refusal.specs.declared.Refusal.{Refusal}
-use Rattle.refusal.specs.declared.Refusal.the-variants.{NotAllowed, NoRoom, LongLine}
-use Rattle.refusal.specs.declared.Outcome.{Outcome}
-use Rattle.refusal.specs.declared.Outcome.the-variants.{Done, Refused}
+use Rattle.refusal.specs.declared.Outcome.the-variants.{Refused}
 use Rattle.settings.specs.Table.{oflt, send, fmod, behind, valueOf, withValue}
-use Rattle.settings.specs.declared.Settings.{Settings}
 use Rattle.storage.specs.Storage as storage
 use Rattle.storage.specs.declared.Storage.{Storage}
 use Rattle.storage.proofs.Kept.{facts}
@@ -30,7 +27,7 @@ use Rattle.command.specs.declared.Kind.the-variants.{Set, Query, Act}
 use Rattle.command.specs.declared.Parsed.{Parsed}
 use Rattle.command.specs.declared.Parsed.the-variants as parsed
 use Rattle.status.specs.Status.{withLia, withRaised, mayRaise}
-use Rattle.state.specs.State.{startState, samplingOf, withRegisters, detectionNow, crossedFrom, markedBy}
+use Rattle.state.specs.State.{samplingOf, withRegisters, detectionNow, crossedFrom, markedBy}
 use Rattle.state.specs.Storing.{triggerOf, tickOf, sampledBy, storedIn}
 use Rattle.state.specs.Allowed.{allowedState}
 use Rattle.state.specs.declared.State.{State}
@@ -75,7 +72,7 @@ pub emptied-holds : (t : State) (one two : List ℕ) → t .moving .storage ≡ 
 emptied-holds t one two e =
     record {
       held = ap (λ (x : Storage). x .held) e ∙ omega arith;
-      next = ap (λ (x : Storage). x .next) e ∙ sym (zero-mod (t .unit .capacity));
+      next = ap (λ (x : Storage). x .next) e ∙ omega (arith, zero-mod (t .unit .capacity));
       first = λ n l u. absurd (omega arith);
       second = λ n l u. absurd (omega arith);
       whole = λ e. omega arith;

@@ -1,5 +1,5 @@
 -- The points stored, over every call: what is held of the history, and what is replied of it. Assumes nothing.
-use Prim.Native.Nat.{ℕ, _≤_}
+use Prim.Native.Nat.{ℕ}
 use native.Mathlib.Omega.{arith}
 use mathlib.Core.Bool.{Bool, true, false, cond, and-eq-true-iff}
 use mathlib.Core.List.{List, []}
@@ -15,7 +15,6 @@ use Rattle.command.specs.declared.QueryArgument.the-variants as query
 use Rattle.state.specs.State.{startState}
 use Rattle.state.specs.Allowed.{allowedState}
 use Rattle.state.specs.declared.Unit.{Unit}
-use Rattle.state.specs.declared.State.{State}
 use Rattle.allow.specs.Allows.{queryAllowed}
 use Rattle.queue.specs.Queue as queue
 use Rattle.queue.specs.declared.Queue.{Queue}
@@ -29,7 +28,7 @@ use Rattle.module.specs.Start.{freshModule, startOf}
 use Rattle.module.specs.Module.{allowedModule, guardOf}
 use Rattle.module.specs.declared.Module.{Module}
 use Rattle.lockin.specs.Calls.{Call, guarded, ran, tooLong, wholeLine, lineCall, endedLine, fedCall, fedByte, byteCall, EventCall, occurred, guardedEvent, eventCall}
-use Rattle.demands.specs.Points.{History, Holds, unlessRefused, afterLine, afterLineCall, afterEnded, afterByteCall, afterEvent, afterEventCall, Stored, byStart, byLine, byByte, byEvent, PointsKept, traceQuery, PointsReplied, RepliesPoints}
+use Rattle.demands.specs.Points.{History, Holds, unlessRefused, afterLine, afterLineCall, afterEnded, afterByteCall, afterEvent, afterEventCall, Stored, byStart, byLine, byByte, byEvent, PointsKept, traceQuery, RepliesPoints}
 use Rattle.demands.proofs.Change.{capacity-known}
 use Rattle.demands.proofs.StaysAllowed.{passes, start-by}
 use Rattle.demands.proofs.History.{Fits, emptied-holds, event-holds, marked-holds, line-holds}
