@@ -157,7 +157,7 @@ points-replied history m one two k =
           (says-trace form t bin count low high (omega arith) some (omega arith)) (trace-same s form t bin count)
           (trace-allowed history s one two (k .holds) form t bin count ∙ le-leb _ _ l) _
           (trace-reply history s one two (k .holds) (c .least) (f .first) (f .second) form t bin count l) room fits;
-      beyond = λ room form t bin count low high some far most l.
+      beyond = λ room form t bin count low high far some most l.
           not-allowed m one two (k .passes) (traceQuery form t bin count) (query.Trace form t bin count)
           (says-trace form t bin count low high far some most)
           (trace-allowed history s one two (k .holds) form t bin count ∙ lt-leb _ _ l) room;

@@ -26,7 +26,6 @@ use Rattle.command.specs.Arguments.{arguments}
 use Rattle.command.specs.Parsed.{parsedOf, alone, queryWith}
 use Rattle.command.specs.declared.QueryArgument.{QueryArgument}
 use Rattle.command.specs.declared.QueryArgument.the-variants as query
-use Rattle.command.specs.declared.Kind.{Kind}
 use Rattle.command.specs.declared.Kind.the-variants.{Query}
 use Rattle.storage.specs.Storage.{oldestOf, holdsOf}
 use Rattle.state.specs.Storing.{storedIn}
@@ -37,15 +36,15 @@ use Rattle.reply.specs.Reply.{fitsIn, wordAt, pointBytes}
 use Rattle.reply_text.specs.ReplyText.{textOf, endOf}
 use Rattle.answer.specs.Reply.{endedText, traceOf, traceReply, queryReply, replyOf}
 use Rattle.line.specs.Perform.{doneBy, performed}
-use Rattle.line.specs.Line.{startLine, afterOf}
+use Rattle.line.specs.Line.{afterOf}
 use Rattle.module.specs.Module.{guardOf}
 use Rattle.module.specs.declared.Module.{Module}
-use Rattle.lockin.specs.Calls.{guarded, ran, wholeLine, lineCall}
-use Rattle.demands.specs.Demand2.{Says}
-use Rattle.demands.specs.Points.{History, InSlots, pairAt, Holds, heldOf, wordOf, sentOf, traceName, traceQuery, replied}
+use Rattle.lockin.specs.Calls.{lineCall}
+use Rattle.demands.specs.Demand2.{answered}
+use Rattle.demands.specs.Points.{History, InSlots, pairAt, Holds, heldOf, wordOf, sentOf, traceName, traceQuery}
 use Rattle.demands.proofs.Meanings.{Name}
+use Rattle.demands.proofs.Says.{Says, said-call}
 use Rattle.demands.proofs.Parsing.{trace-asked}
-use Rattle.demands.proofs.Lines.{said-line}
 use Rattle.demands.proofs.Slots.{bin-mod}
 
 -- ---- points from a bin on
@@ -108,28 +107,22 @@ pub says-trace : (form : Form) (t bin count : ℕ) → 1 ≤ t → t ≤ 2 → b
     Says (traceQuery form t bin count) (Query (query.Trace form t bin count))
 says-trace form t bin count = trace-asked (traceName form) (trace-name form) form t bin count (trace-means form)
 
--- ---- a line that is one command, as a call
+-- ---- queries as calls
 
 module _ (m : Module) (one two : List ℕ) (passed : guardOf m (length one) (length two) ≡ Done) where
-  pub said-call : (text : List ℕ) (kind : Kind) → Says text kind → (room : ℕ) →
-      lineCall room text m one two ≡ ran (afterOf (startLine (m .state) one two) (performed room false kind (m .state) one two)) (m .queue)
-  unfolding lineCall wholeLine guarded
-  said-call text kind says room =
-      rw (passed, le-leb (length text) 256 (says .short), said-line text kind says room (m .state) one two)
-
   -- a query that clears nothing
   pub asked : (text : List ℕ) (q : QueryArgument) → Says text (Query q) → stateAfter (Query q) (m .state) ≡ m .state →
       queryAllowed (m .state .moving) q ≡ true → (out : List ℕ) → queryReply q (m .state) false one two ≡ out → (room : ℕ) → length out ≤ room →
-      lineCall room text m one two ≡ replied out m one two
+      lineCall room text m one two ≡ answered out m one two
   unfolding performed allowsOf replyOf fitsIn doneBy storageAfter storedIn afterOf firstOf drops
   asked text q says same allowed out reply room fits =
-      said-call text (Query q) says room ∙ rw (allowed, reply, le-leb (length out) room fits, same)
+      said-call text (Query q) says room m one two passed ∙ rw (allowed, reply, le-leb (length out) room fits, same)
 
   -- a query that 3 refuses
   pub not-allowed : (text : List ℕ) (q : QueryArgument) → Says text (Query q) → queryAllowed (m .state .moving) q ≡ false → (room : ℕ) →
       lineCall room text m one two .told .answer ≡ answer.Refused NotAllowed 1
   unfolding performed allowsOf afterOf firstOf
-  not-allowed text q says refused room = rw (said-call text (Query q) says room, refused)
+  not-allowed text q says refused room = rw (said-call text (Query q) says room m one two passed, refused)
 
 pub points-same : (s : State) → stateAfter (Query query.Points) s ≡ s
 unfolding stateAfter changedBy settingsAfter movingAfter externalAfter storageAfter registersAfter registersAsked enablesAfter

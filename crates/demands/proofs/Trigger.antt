@@ -32,9 +32,8 @@ use Rattle.event.specs.declared.Event.the-variants as event
 use Rattle.module.specs.Module.{guardOf}
 use Rattle.module.specs.declared.Module.{Module}
 use Rattle.lockin.specs.Calls.{guarded, ran, lineCall, guardedEvent, eventCall}
-use Rattle.demands.specs.Demand2.{Says}
 use Rattle.demands.specs.Points.{DoesAs, TrigIsTrigger}
-use Rattle.demands.proofs.Replies.{said-call}
+use Rattle.demands.proofs.Says.{Says, said-call}
 
 says-trig : Says (bytes "TRIG") (Act Trigger)
 unfolding cleaned parts onHead parsedOf begins meaningIn setWith arguments alone
@@ -63,7 +62,7 @@ trig-command room waiting s one two = rw (says-trig .read) (trig-performed room 
 trig-call : (room : ℕ) (m : Module) (one two : List ℕ) → guardOf m (length one) (length two) ≡ Done →
     lineCall room (bytes "TRIG") m one two ≡ ran (afterOf (startLine (m .state) one two) (triggered (m .state) one two)) (m .queue)
 trig-call room m one two e =
-    said-call m one two e (bytes "TRIG") (Act Trigger) says-trig room ∙ rw (trig-performed room false (m .state) one two)
+    said-call (bytes "TRIG") (Act Trigger) says-trig room m one two e ∙ rw (trig-performed room false (m .state) one two)
 
 module _ (room : ℕ) (m : Module) (one two : List ℕ) where
   both-done : guardOf m (length one) (length two) ≡ Done → DoesAs (lineCall room (bytes "TRIG") m one two) (eventCall event.Trigger m one two)

@@ -1,6 +1,6 @@
 -- The points stored, over every call: document 01, "Storing points".
--- The history is the pairs stored since storage was last emptied, oldest first. What each call does to it is said here; the module and its traces hold its
--- last pairs after every call, and SPTS?, TRCL? and TRCB? reply them.
+-- The history is the pairs stored since storage was last emptied, oldest first. What each call does to it is said here;
+-- the module and its traces hold its last pairs after every call, and SPTS?, TRCL? and TRCB? reply them.
 use Prim.Native.Nat.{ℕ, _+_, _-_, _%_, _≤_, _<_, min}
 use mathlib.Core.Bool.{Bool, cond}
 use mathlib.Core.Path.{_≡_}
@@ -37,7 +37,7 @@ use Rattle.line.specs.Line.{Line, startLine, stepOf}
 use Rattle.event.specs.Event.{eventOf}
 use Rattle.event.specs.declared.Event.{Event}
 use Rattle.event.specs.declared.Event.the-variants as event
-use Rattle.queue.specs.Queue.{waitingBytes, fedOf}
+use Rattle.queue.specs.Queue.{lineLimit, waitingBytes, fedOf}
 use Rattle.queue.specs.declared.Queue.{Queue}
 use Rattle.queue.specs.declared.Ended.{Ended}
 use Rattle.queue.specs.declared.Ended.the-variants as ended
@@ -45,6 +45,7 @@ use Rattle.module.specs.Start.{startOf}
 use Rattle.module.specs.Module.{guardOf}
 use Rattle.module.specs.declared.Module.{Module}
 use Rattle.lockin.specs.Calls.{Call, lineCall, byteCall, EventCall, eventCall}
+use Rattle.demands.specs.Demand2.{joined, answered}
 
 -- ---- what a call does to the history
 
@@ -80,7 +81,8 @@ afterAction action.Start s history = history
 afterAction action.Pause s history = history
 afterAction action.Clear s history = history
 
--- a command that was read: sets and queries store nothing, whether 3 or 4 refuses them or not, and neither refuses any other command
+-- a command that was read: sets and queries store nothing, whether 3 or 4 refuses them or not; the others are refused by
+-- neither
 unfoldable pub afterKind : Kind → State → History → History
 afterKind (Set a) s history = history
 afterKind (Query q) s history = history
@@ -109,10 +111,11 @@ unfoldable pub unlessRefused : Outcome → History → History → History
 unlessRefused Done now history = now
 unlessRefused (Refused r) now history = history
 
--- a line handed over whole: one over 256 bytes does not run
+-- a line handed over whole: one over the line limit does not run
 unfoldable pub afterLineCall : ℕ → List ℕ → Module → List ℕ → List ℕ → History → History
 afterLineCall room line m one two history =
-    unlessRefused (guardOf m (length one) (length two)) (cond (leb (length line) 256) (afterLine room line (m .state) one two history) history) history
+    unlessRefused (guardOf m (length one) (length two))
+    (cond (leb (length line) lineLimit) (afterLine room line (m .state) one two history) history) history
 
 -- what a byte ends: the line that waits in the queue runs, and nothing else stores
 unfoldable pub afterEnded : Ended → Queue → ℕ → Module → List ℕ → List ℕ → History → History
@@ -120,11 +123,14 @@ afterEnded ended.Nothing q room m one two history = history
 afterEnded ended.Line q room m one two history = afterLine room (waitingBytes q) (m .state) one two history
 afterEnded ended.TooLong q room m one two history = history
 
+-- a byte
 unfoldable pub afterByteCall : ℕ → ℕ → Bool → Module → List ℕ → List ℕ → History → History
 afterByteCall room b mark m one two history =
     let fed = fedOf (m .queue) (m .state .unit .port) b mark in
-    unlessRefused (guardOf m (length one) (length two)) (afterEnded (fed .ended) (fed .queue) room m one two history) history
+    unlessRefused (guardOf m (length one) (length two))
+    (afterEnded (fed .ended) (fed .queue) room m one two history) history
 
+-- an event
 unfoldable pub afterEventCall : Event → Module → List ℕ → List ℕ → History → History
 afterEventCall e m one two history =
     unlessRefused (guardOf m (length one) (length two)) (afterEvent e (m .state) history) history
@@ -135,13 +141,14 @@ afterEventCall e m one two history =
 abbrev pub pairAt : History → ℕ → Pair
 pairAt history n = getD history n (record { one = 0; two = 0 })
 
--- the last pairs of the history, as many as there are slots, lie in a trace by one of their words: pair n in slot n mod capacity
+-- the last pairs of the history, as many as there are slots, lie in a trace by one of their words: pair n in slot n mod
+-- capacity
 abbrev pub InSlots : (Pair → ℕ) → History → ℕ → List ℕ → Type 0
 InSlots word history capacity trace =
     (n : ℕ) → n < length history → length history ≤ n + capacity → getD trace (n % capacity) 0 ≡ word (pairAt history n)
 
--- a state and its traces hold the history: the points held are all of it up to the capacity, the next slot is that of the pair to come, each trace has its
--- words, and in one shot no more pairs were stored than there are slots
+-- a state and its traces hold the history: the points held are all of it up to the capacity, the next slot is that of
+-- the pair to come, each trace has its words, and in one shot no more pairs were stored than there are slots
 pub record Holds (history : History) (s : State) (one two : List ℕ) : Type 0 where
   pub held : s .moving .storage .held ≡ min (length history) (s .unit .capacity)
   pub next : s .moving .storage .next ≡ length history % s .unit .capacity
@@ -149,31 +156,41 @@ pub record Holds (history : History) (s : State) (one two : List ℕ) : Type 0 w
   pub second : InSlots (λ p. p .two) history (s .unit .capacity) two
   pub whole : valueOf (s .settings) send ≡ oneShot → length history ≤ s .unit .capacity
 
--- a module with its traces after any calls from a start on, each with the traces that the call before it left, and its history
+-- a module with its traces after any calls from a start on, each with the traces that the call before it left, and its
+-- history
 pub data Stored : History → Module → List ℕ → List ℕ → Type 0 where
-  byStart : (serial port first second : ℕ) (one two : List ℕ) → Stored [] (startOf serial port first second .after) one two
-  byLine : (room : ℕ) (line : List ℕ) (history : History) (m : Module) (one two : List ℕ) → Stored history m one two →
+  byStart : (serial port first second : ℕ) (one two : List ℕ) →
+      Stored [] (startOf serial port first second .after) one two
+  byLine : (room : ℕ) (line : List ℕ) (history : History) (m : Module) (one two : List ℕ) →
+      Stored history m one two →
       Stored (afterLineCall room line m one two history)
       (lineCall room line m one two .after) (lineCall room line m one two .one) (lineCall room line m one two .two)
-  byByte : (room b : ℕ) (mark : Bool) (history : History) (m : Module) (one two : List ℕ) → Stored history m one two →
+  byByte : (room b : ℕ) (mark : Bool) (history : History) (m : Module) (one two : List ℕ) →
+      Stored history m one two →
       Stored (afterByteCall room b mark m one two history)
       (byteCall room b mark m one two .after) (byteCall room b mark m one two .one) (byteCall room b mark m one two .two)
   byEvent : (e : Event) (history : History) (m : Module) (one two : List ℕ) → Stored history m one two →
-      Stored (afterEventCall e m one two history) (eventCall e m one two .after) (eventCall e m one two .one) (eventCall e m one two .two)
+      Stored (afterEventCall e m one two history)
+      (eventCall e m one two .after) (eventCall e m one two .one) (eventCall e m one two .two)
 
 -- a start, refused or not, holds the empty history, and every line, byte and event, refused or not, leads on from there
 pub record PointsKept : Type 0 where
-  pub start : (serial port first second : ℕ) (one two : List ℕ) → Holds [] (startOf serial port first second .after .state) one two
-  pub line : (room : ℕ) (line : List ℕ) (history : History) (m : Module) (one two : List ℕ) → Holds history (m .state) one two →
+  pub start : (serial port first second : ℕ) (one two : List ℕ) →
+      Holds [] (startOf serial port first second .after .state) one two
+  pub line : (room : ℕ) (line : List ℕ) (history : History) (m : Module) (one two : List ℕ) →
+      Holds history (m .state) one two →
       let c = lineCall room line m one two in
       Holds (afterLineCall room line m one two history) (c .after .state) (c .one) (c .two)
-  pub byte : (room b : ℕ) (mark : Bool) (history : History) (m : Module) (one two : List ℕ) → Holds history (m .state) one two →
+  pub byte : (room b : ℕ) (mark : Bool) (history : History) (m : Module) (one two : List ℕ) →
+      Holds history (m .state) one two →
       let c = byteCall room b mark m one two in
       Holds (afterByteCall room b mark m one two history) (c .after .state) (c .one) (c .two)
-  pub event : (e : Event) (history : History) (m : Module) (one two : List ℕ) → Holds history (m .state) one two →
+  pub event : (e : Event) (history : History) (m : Module) (one two : List ℕ) →
+      Holds history (m .state) one two →
       let c = eventCall e m one two in
       Holds (afterEventCall e m one two history) (c .after .state) (c .one) (c .two)
-  pub made : (history : History) (m : Module) (one two : List ℕ) → Stored history m one two → Holds history (m .state) one two
+  pub made : (history : History) (m : Module) (one two : List ℕ) →
+      Stored history m one two → Holds history (m .state) one two
 
 -- ---- what is replied
 
@@ -190,37 +207,40 @@ unfoldable pub sentOf : Form → ℕ → List Pair → List ℕ
 sentOf form t [] = []
 sentOf form t (p ∷ more) = littleEndian (formed form (wordOf t p)) ++ sentOf form t more
 
--- the query of count points of trace t from a bin on; 63 is "?" and 44 is ","
+-- the query of count points of trace t from a bin on, as TRCL?1,0,2; 63 is "?"
 abbrev pub traceName : Form → List ℕ
 traceName Words = bytes "TRCL"
 traceName Floats = bytes "TRCB"
 
 abbrev pub traceQuery : Form → ℕ → ℕ → ℕ → List ℕ
-traceQuery form t bin count = traceName form ++ (63 ∷ (plain t ++ 44 ∷ (plain bin ++ 44 ∷ plain count)))
-
--- a call that is answered 0, changes nothing and writes these bytes
-abbrev pub replied : List ℕ → Module → List ℕ → List ℕ → Call
-replied out m one two = record { after = m; one = one; two = two; out = out; told = toldOf answer.Passed (length out) }
+traceQuery form t bin count = traceName form ++ (63 ∷ joined (plain t ∷ plain bin ∷ plain count ∷ []))
 
 -- a module that neither 11 nor 9 refuses, its traces, and the history that they hold
 pub record Holding (history : History) (m : Module) (one two : List ℕ) : Type 0 where
   pub passes : guardOf m (length one) (length two) ≡ Done
   pub holds : Holds history (m .state) one two
 
--- SPTS? replies how many points are held, and a trace query replies those from its bin on, or is refused by 3 where it asks for more than are held
+-- how many points are held of a history
+abbrev pub heldCount : History → Module → ℕ
+heldCount history m = min (length history) (m .state .unit .capacity)
+
+-- SPTS? replies how many points are held, and a trace query replies those from its bin on, each with room for the reply;
+-- a trace query that asks for more than are held is refused by 3
 pub record PointsReplied (history : History) (m : Module) (one two : List ℕ) : Type 0 where
   pub points : (room : ℕ) →
-      let out = plain (min (length history) (m .state .unit .capacity)) ++ (endOf (m .state .unit .port) ∷ []) in
-      length out ≤ room → lineCall room (bytes "SPTS?") m one two ≡ replied out m one two
-  pub trace : (room : ℕ) (form : Form) (t bin count : ℕ) → 1 ≤ t → t ≤ 2 → 1 ≤ count → bin + count ≤ min (length history) (m .state .unit .capacity) →
+      let out = plain (heldCount history m) ++ (endOf (m .state .unit .port) ∷ []) in
+      length out ≤ room → lineCall room (bytes "SPTS?") m one two ≡ answered out m one two
+  pub trace : (room : ℕ) (form : Form) (t bin count : ℕ) → 1 ≤ t → t ≤ 2 → 1 ≤ count →
+      bin + count ≤ heldCount history m →
       let out = sentOf form t (take count (drop bin (heldOf (m .state .unit .capacity) history))) in
-      length out ≤ room → lineCall room (traceQuery form t bin count) m one two ≡ replied out m one two
-  pub beyond : (room : ℕ) (form : Form) (t bin count : ℕ) → 1 ≤ t → t ≤ 2 → 1 ≤ count → bin ≤ 16383 → count ≤ 16383 →
-      min (length history) (m .state .unit .capacity) < bin + count →
+      length out ≤ room → lineCall room (traceQuery form t bin count) m one two ≡ answered out m one two
+  pub beyond : (room : ℕ) (form : Form) (t bin count : ℕ) → 1 ≤ t → t ≤ 2 → bin ≤ 16383 → 1 ≤ count → count ≤ 16383 →
+      heldCount history m < bin + count →
       lineCall room (traceQuery form t bin count) m one two .told .answer ≡ answer.Refused NotAllowed 1
 
 abbrev pub RepliesPoints : Type 0
-RepliesPoints = (history : History) (m : Module) (one two : List ℕ) → Holding history m one two → PointsReplied history m one two
+RepliesPoints =
+    (history : History) (m : Module) (one two : List ℕ) → Holding history m one two → PointsReplied history m one two
 
 -- ---- TRIG and the trigger event
 
@@ -231,12 +251,15 @@ pub record DoesAs (c : Call) (e : EventCall) : Type 0 where
   pub second : c .two ≡ e .two
   pub reply : c .out ≡ []
 
--- wherever TRIG stands in a line it does what the event does; as a line by itself it leaves what the event leaves in every module and with any traces,
--- and both are answered 0 where neither 11 nor 9 refuses the call
+-- wherever TRIG stands in a line it does what the event does; as a line by itself it leaves what the event leaves in
+-- every module and with any traces, and both are answered 0 where neither 11 nor 9 refuses the call
 pub record TrigIsTrigger : Type 0 where
   pub command : (room : ℕ) (waiting : Bool) (s : State) (one two : List ℕ) →
       let e = eventOf event.Trigger s one two in
-      commandOf room waiting (parsedOf (bytes "TRIG")) s one two ≡ record { state = e .state; one = e .one; two = e .two; out = []; outcome = e .outcome }
-  pub line : (room : ℕ) (m : Module) (one two : List ℕ) → DoesAs (lineCall room (bytes "TRIG") m one two) (eventCall event.Trigger m one two)
+      commandOf room waiting (parsedOf (bytes "TRIG")) s one two
+      ≡ record { state = e .state; one = e .one; two = e .two; out = []; outcome = e .outcome }
+  pub line : (room : ℕ) (m : Module) (one two : List ℕ) →
+      DoesAs (lineCall room (bytes "TRIG") m one two) (eventCall event.Trigger m one two)
   pub answers : (room : ℕ) (m : Module) (one two : List ℕ) → guardOf m (length one) (length two) ≡ Done →
-      (lineCall room (bytes "TRIG") m one two .told ≡ toldOf answer.Passed 0) × (eventCall event.Trigger m one two .outcome ≡ Done)
+      (lineCall room (bytes "TRIG") m one two .told ≡ toldOf answer.Passed 0)
+      × (eventCall event.Trigger m one two .outcome ≡ Done)
