@@ -27,12 +27,16 @@ use Rattle.event.proofs.Crossed.{sound}
 use Rattle.module.specs.Start.{freshModule, startOf}
 use Rattle.module.specs.Module.{allowedModule, guardOf}
 use Rattle.module.specs.declared.Module.{Module}
-use Rattle.lockin.specs.Calls.{Call, guarded, ran, tooLong, wholeLine, lineCall, endedLine, fedCall, fedByte, byteCall, EventCall, occurred, guardedEvent, eventCall}
-use Rattle.demands.specs.Points.{History, Holds, unlessRefused, afterLine, afterLineCall, afterEnded, afterByteCall, afterEvent, afterEventCall, Stored, byStart, byLine, byByte, byEvent, PointsKept, traceQuery, RepliesPoints}
+use Rattle.lockin.specs.Calls.{Call, guarded, ran, tooLong, wholeLine, lineCall, endedLine, fedCall, fedByte, byteCall}
+use Rattle.lockin.specs.Calls.{EventCall, occurred, guardedEvent, eventCall}
+use Rattle.demands.specs.Points.{History, Holds, unlessRefused, afterLine, afterLineCall, afterEnded}
+use Rattle.demands.specs.Points.{afterByteCall, afterEvent, afterEventCall, Stored, byStart, byLine, byByte}
+use Rattle.demands.specs.Points.{byEvent, PointsKept, traceQuery, RepliesPoints}
 use Rattle.demands.proofs.Change.{capacity-known}
 use Rattle.demands.proofs.StaysAllowed.{passes, start-by}
 use Rattle.demands.proofs.History.{Fits, emptied-holds, event-holds, marked-holds, line-holds}
-use Rattle.demands.proofs.Replies.{says-points, says-trace, asked, not-allowed, points-same, trace-same, points-reply, trace-allowed, trace-reply}
+use Rattle.demands.proofs.Replies.{says-points, says-trace, asked, not-allowed, points-same, trace-same}
+use Rattle.demands.proofs.Replies.{points-reply, trace-allowed, trace-reply}
 
 -- ---- the start
 
@@ -40,7 +44,8 @@ fresh-holds : (u : Unit) (one two : List ℕ) → Holds [] (freshModule u .state
 unfolding freshModule startState
 fresh-holds u one two = emptied-holds (freshModule u .state) one two refl
 
-start-holds : (serial port first second : ℕ) (one two : List ℕ) → Holds [] (startOf serial port first second .after .state) one two
+start-holds : (serial port first second : ℕ) (one two : List ℕ) →
+    Holds [] (startOf serial port first second .after .state) one two
 start-holds serial port first second one two =
     start-by serial port first second (λ s. Holds [] (s .after .state) one two)
     (λ r. fresh-holds (record { serial = 0; port = 1; capacity = 1 }) one two)
@@ -53,7 +58,8 @@ unfolding allowedModule
 fits-passed m one two e =
     let p = passes m (length one) (length two) e in
     record {
-      allowed = and-eq-true-iff (allowedState (m .state)) (queue.keepsOf (m .queue) (m .state .unit .port)) .0 (p .allowed) .0;
+      allowed = and-eq-true-iff (allowedState (m .state)) (queue.keepsOf (m .queue) (m .state .unit .port)) .0
+          (p .allowed) .0;
       first = eqb-true (length one) (m .state .unit .capacity) (p .first-fits);
       second = eqb-true (length two) (m .state .unit .capacity) (p .second-fits);
     }
@@ -83,9 +89,10 @@ module _ (history : History) (m : Module) (one two : List ℕ) (h : Holds histor
 
   whole-holds : (room : ℕ) (line : List ℕ) → Fits (m .state) one two →
       let c = wholeLine room line m one two in
-      Holds (cond (leb (length line) 256) (afterLine room line (m .state) one two history) history) (c .after .state) (c .one) (c .two)
+      Holds (cond (leb (length line) queue.lineLimit) (afterLine room line (m .state) one two history) history)
+      (c .after .state) (c .one) (c .two)
   unfolding wholeLine
-  whole-holds room line f = by (leb (length line) 256) where
+  whole-holds room line f = by (leb (length line) queue.lineLimit) where
     by : (t : Bool) →
         let c = cond t (ran (lineOf room line (m .state) one two) (m .queue)) (tooLong m (m .queue) one two) in
         Holds (cond t (afterLine room line (m .state) one two history) history) (c .after .state) (c .one) (c .two)
@@ -98,7 +105,8 @@ module _ (history : History) (m : Module) (one two : List ℕ) (h : Holds histor
   unfolding lineCall afterLineCall
   line-kept room line =
       guarded-holds (guardOf m (length one) (length two)) refl (wholeLine room line m one two)
-      (cond (leb (length line) 256) (afterLine room line (m .state) one two history) history) (whole-holds room line)
+      (cond (leb (length line) queue.lineLimit) (afterLine room line (m .state) one two history) history)
+      (whole-holds room line)
 
   ended-holds : (room : ℕ) (e : Ended) (q : Queue) → Fits (m .state) one two →
       let c = fedCall e q room m one two in
@@ -122,14 +130,19 @@ module _ (history : History) (m : Module) (one two : List ℕ) (h : Holds histor
       Holds (afterEventCall e m one two history) (c .after .state) (c .one) (c .two)
   unfolding eventCall afterEventCall
   event-kept e =
-      guarded-event-holds (guardOf m (length one) (length two)) refl (occurred (eventOf e (m .state) one two) (m .queue))
+      guarded-event-holds (guardOf m (length one) (length two)) refl
+      (occurred (eventOf e (m .state) one two) (m .queue))
       (afterEvent e (m .state) history) (λ f. event-holds history (m .state) one two h f e)
 
-made-holds : (history : History) (m : Module) (one two : List ℕ) → Stored history m one two → Holds history (m .state) one two
+made-holds : (history : History) (m : Module) (one two : List ℕ) → Stored history m one two →
+    Holds history (m .state) one two
 made-holds _ _ _ _ (byStart serial port first second one two) = start-holds serial port first second one two
-made-holds _ _ _ _ (byLine room line history m one two k) = line-kept history m one two (made-holds history m one two k) room line
-made-holds _ _ _ _ (byByte room b mark history m one two k) = byte-kept history m one two (made-holds history m one two k) room b mark
-made-holds _ _ _ _ (byEvent e history m one two k) = event-kept history m one two (made-holds history m one two k) e
+made-holds _ _ _ _ (byLine room line history m one two k) =
+    line-kept history m one two (made-holds history m one two k) room line
+made-holds _ _ _ _ (byByte room b mark history m one two k) =
+    byte-kept history m one two (made-holds history m one two k) room b mark
+made-holds _ _ _ _ (byEvent e history m one two k) =
+    event-kept history m one two (made-holds history m one two k) e
 
 pub points-kept : PointsKept
 points-kept =
@@ -151,7 +164,8 @@ points-replied history m one two k =
     let c = capacity-known (s .unit) (sound s (f .allowed) .unit) in
     record {
       points = λ room fits.
-          asked m one two (k .passes) (bytes "SPTS?") query.Points says-points (points-same s) refl _ (points-reply history s one two (k .holds)) room fits;
+          asked m one two (k .passes) (bytes "SPTS?") query.Points says-points (points-same s) refl _
+          (points-reply history s one two (k .holds)) room fits;
       trace = λ room form t bin count low high some l fits.
           asked m one two (k .passes) (traceQuery form t bin count) (query.Trace form t bin count)
           (says-trace form t bin count low high (omega arith) some (omega arith)) (trace-same s form t bin count)

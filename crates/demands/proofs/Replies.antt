@@ -31,7 +31,8 @@ use Rattle.storage.specs.Storage.{oldestOf, holdsOf}
 use Rattle.state.specs.Storing.{storedIn}
 use Rattle.state.specs.declared.State.{State}
 use Rattle.allow.specs.Allows.{queryAllowed, allowsOf}
-use Rattle.change.specs.Change.{settingsAfter, storageAfter, externalAfter, movingAfter, registersAsked, registersAfter, enablesAfter, changedBy, stateAfter}
+use Rattle.change.specs.Change.{settingsAfter, storageAfter, externalAfter, movingAfter, registersAsked, registersAfter}
+use Rattle.change.specs.Change.{enablesAfter, changedBy, stateAfter}
 use Rattle.reply.specs.Reply.{fitsIn, wordAt, pointBytes}
 use Rattle.reply_text.specs.ReplyText.{textOf, endOf}
 use Rattle.answer.specs.Reply.{endedText, traceOf, traceReply, queryReply, replyOf}
@@ -49,7 +50,8 @@ use Rattle.demands.proofs.Slots.{bin-mod}
 
 -- ---- points from a bin on
 
-module _ (form : Form) (t : ℕ) (history : History) (c : ℕ) (trace : List ℕ) (some : 1 ≤ c) (fits : length trace ≡ c) (lies : InSlots (wordOf t) history c trace) where
+module _ (form : Form) (t : ℕ) (history : History) (c : ℕ) (trace : List ℕ) (some : 1 ≤ c) (fits : length trace ≡ c)
+    (lies : InSlots (wordOf t) history c trace) where
   held-length : length (heldOf c history) ≡ min (length history) c
   held-length = length-drop (length history - c) history ∙ omega arith
 
@@ -63,7 +65,8 @@ module _ (form : Form) (t : ℕ) (history : History) (c : ℕ) (trace : List ℕ
       ∙ ap (wordOf t) (sym (getD-drop (length history - c) history j (record { one = 0; two = 0 }))))
 
   sent-is : (j count : ℕ) → j + count ≤ min (length history) c →
-      pointBytes form trace (length history % c + (c - min (length history) c) + j) count ≡ sentOf form t (take count (drop j (heldOf c history)))
+      pointBytes form trace (length history % c + (c - min (length history) c) + j) count
+      ≡ sentOf form t (take count (drop j (heldOf c history)))
   unfolding pointBytes sentOf
   sent-is j zero l = refl
   sent-is j (suc count) l =
@@ -76,7 +79,8 @@ module _ (form : Form) (t : ℕ) (history : History) (c : ℕ) (trace : List ℕ
       )
 
 -- both words of a pair, by the trace asked for
-lies-in : (t : ℕ) (history : History) (s : State) (one two : List ℕ) → Holds history s one two → InSlots (wordOf t) history (s .unit .capacity) (traceOf t one two)
+lies-in : (t : ℕ) (history : History) (s : State) (one two : List ℕ) → Holds history s one two →
+    InSlots (wordOf t) history (s .unit .capacity) (traceOf t one two)
 lies-in t history s one two h = by (eqb t 1) where
   by : (b : Bool) → InSlots (λ p. cond b (p .one) (p .two)) history (s .unit .capacity) (cond b one two)
   by true = h .first
@@ -112,43 +116,51 @@ says-trace form t bin count = trace-asked (traceName form) (trace-name form) for
 module _ (m : Module) (one two : List ℕ) (passed : guardOf m (length one) (length two) ≡ Done) where
   -- a query that clears nothing
   pub asked : (text : List ℕ) (q : QueryArgument) → Says text (Query q) → stateAfter (Query q) (m .state) ≡ m .state →
-      queryAllowed (m .state .moving) q ≡ true → (out : List ℕ) → queryReply q (m .state) false one two ≡ out → (room : ℕ) → length out ≤ room →
+      queryAllowed (m .state .moving) q ≡ true → (out : List ℕ) → queryReply q (m .state) false one two ≡ out →
+      (room : ℕ) → length out ≤ room →
       lineCall room text m one two ≡ answered out m one two
   unfolding performed allowsOf replyOf fitsIn doneBy storageAfter storedIn afterOf firstOf drops
   asked text q says same allowed out reply room fits =
       said-call text (Query q) says room m one two passed ∙ rw (allowed, reply, le-leb (length out) room fits, same)
 
   -- a query that 3 refuses
-  pub not-allowed : (text : List ℕ) (q : QueryArgument) → Says text (Query q) → queryAllowed (m .state .moving) q ≡ false → (room : ℕ) →
+  pub not-allowed : (text : List ℕ) (q : QueryArgument) → Says text (Query q) →
+      queryAllowed (m .state .moving) q ≡ false → (room : ℕ) →
       lineCall room text m one two .told .answer ≡ answer.Refused NotAllowed 1
   unfolding performed allowsOf afterOf firstOf
   not-allowed text q says refused room = rw (said-call text (Query q) says room m one two passed, refused)
 
 pub points-same : (s : State) → stateAfter (Query query.Points) s ≡ s
-unfolding stateAfter changedBy settingsAfter movingAfter externalAfter storageAfter registersAfter registersAsked enablesAfter
+unfolding stateAfter changedBy settingsAfter movingAfter externalAfter storageAfter registersAfter registersAsked
+    enablesAfter
 points-same s = refl
 
 pub trace-same : (s : State) (form : Form) (t bin count : ℕ) → stateAfter (Query (query.Trace form t bin count)) s ≡ s
-unfolding stateAfter changedBy settingsAfter movingAfter externalAfter storageAfter registersAfter registersAsked enablesAfter
+unfolding stateAfter changedBy settingsAfter movingAfter externalAfter storageAfter registersAfter registersAsked
+    enablesAfter
 trace-same s form t bin count = refl
 
 -- ---- the replies
 
 module _ (history : History) (s : State) (one two : List ℕ) (h : Holds history s one two) where
-  pub points-reply : queryReply query.Points s false one two ≡ plain (min (length history) (s .unit .capacity)) ++ (endOf (s .unit .port) ∷ [])
+  pub points-reply : queryReply query.Points s false one two ≡ plain (min (length history) (s .unit .capacity)) ++
+      (endOf (s .unit .port) ∷ [])
   unfolding queryReply endedText textOf
   points-reply = rw (h .held)
 
   pub trace-allowed : (form : Form) (t bin count : ℕ) →
-      queryAllowed (s .moving) (query.Trace form t bin count) ≡ leb (bin + count) (min (length history) (s .unit .capacity))
+      queryAllowed (s .moving) (query.Trace form t bin count) ≡ leb (bin + count)
+      (min (length history) (s .unit .capacity))
   unfolding queryAllowed holdsOf
   trace-allowed form t bin count = rw (h .held)
 
   pub trace-reply : 1 ≤ s .unit .capacity → length one ≡ s .unit .capacity → length two ≡ s .unit .capacity →
       (form : Form) (t bin count : ℕ) → bin + count ≤ min (length history) (s .unit .capacity) →
-      queryReply (query.Trace form t bin count) s false one two ≡ sentOf form t (take count (drop bin (heldOf (s .unit .capacity) history)))
+      queryReply (query.Trace form t bin count) s false one two ≡ sentOf form t
+      (take count (drop bin (heldOf (s .unit .capacity) history)))
   unfolding queryReply traceReply oldestOf
   trace-reply some first second form t bin count l =
       rw (h .held, h .next)
-      (sent-is form t history (s .unit .capacity) (traceOf t one two) some (trace-length t (s .unit .capacity) one two first second)
+      (sent-is form t history (s .unit .capacity) (traceOf t one two) some
+      (trace-length t (s .unit .capacity) one two first second)
       (lies-in t history s one two h) bin count l)

@@ -1,4 +1,5 @@
--- Where points lie: pair n in slot n mod capacity, one more pair in the next slot, and bin j in the slot of the j-th pair held. Assumes nothing.
+-- Where points lie: pair n in slot n mod capacity, one more pair in the next slot, and bin j in the slot of the j-th
+-- pair held. Assumes nothing.
 use Prim.Native.Nat.{ℕ, suc, _+_, _-_, _%_, _<_, _≤_, min}
 use native.Mathlib.Nat.{mod-lt, mod-self, mod-eq-of-lt, suc-mod, mod-add-mod, add-mod-right, add-mod-left}
 use native.Mathlib.Numerals.{add-one}
@@ -25,7 +26,8 @@ next-mod n c h = rw (add-one n) (by (ltb (n % c + 1) c) refl)
         let full : suc (n % c) ≡ c = omega (arith, ltb-false (n % c + 1) c e, mod-lt n {m = c} h) in
         sym (suc-mod n c ∙ ap (λ (x : ℕ). x % c) full ∙ mod-self c)
 
--- as many slots before the next one as points are held, counted round: bin j lies where its pair does, whether the slots are full or not
+-- as many slots before the next one as points are held, counted round: bin j lies where its pair does, whether the
+-- slots are full or not
 pub bin-mod : (n c j : ℕ) → 1 ≤ c → (n % c + (c - min n c) + j) % c ≡ (n - c + j) % c
 bin-mod n c j h = by (leb c n) refl
   where
@@ -58,11 +60,14 @@ pub longer : (history : History) (p : Pair) → length (history ++ (p ∷ [])) �
 longer history p = rw length-append
 
 -- one more pair, its word in the next slot: it overwrites none of the last pairs
-module _ (word : Pair → ℕ) (history : History) (p : Pair) (c : ℕ) (trace : List ℕ) (some : 1 ≤ c) (fits : length trace ≡ c) where
-  pub more-lies : InSlots word history c trace → InSlots word (history ++ (p ∷ [])) c (set trace (length history % c) (word p))
+module _ (word : Pair → ℕ) (history : History) (p : Pair) (c : ℕ) (trace : List ℕ) (some : 1 ≤ c)
+    (fits : length trace ≡ c) where
+  pub more-lies : InSlots word history c trace →
+      InSlots word (history ++ (p ∷ [])) c (set trace (length history % c) (word p))
   more-lies lies n l u = by (ltb n (length history)) refl
     where
-      by : (t : Bool) → ltb n (length history) ≡ t → getD (set trace (length history % c) (word p)) (n % c) 0 ≡ word (pairAt (history ++ (p ∷ [])) n)
+      by : (t : Bool) → ltb n (length history) ≡ t →
+          getD (set trace (length history % c) (word p)) (n % c) 0 ≡ word (pairAt (history ++ (p ∷ [])) n)
       by true e =
           let lower : n < length history = ltb-true n (length history) e in
           let far : length history < n + c = omega (arith, longer history p) in

@@ -22,7 +22,8 @@ use Rattle.command.specs.declared.Kind.the-variants.{Act}
 use Rattle.state.specs.Storing.{triggerOf, sampledBy}
 use Rattle.state.specs.declared.State.{State}
 use Rattle.allow.specs.Allows.{allowsOf}
-use Rattle.change.specs.Change.{settingsAfter, restoredBy, storageBy, storageAfter, externalBy, externalAfter, movingAfter, registersBy, registersAfter, enablesAfter, changedBy, stateAfter}
+use Rattle.change.specs.Change.{settingsAfter, restoredBy, storageBy, storageAfter, externalBy, externalAfter}
+use Rattle.change.specs.Change.{movingAfter, registersBy, registersAfter, enablesAfter, changedBy, stateAfter}
 use Rattle.reply.specs.Reply.{fitsIn}
 use Rattle.answer.specs.Reply.{replyOf}
 use Rattle.line.specs.Perform.{Effect, doneBy, performed, commandOf}
@@ -46,26 +47,32 @@ triggered s one two =
     record { state = e .state; one = e .one; two = e .two; out = []; outcome = e .outcome }
 
 trig-done : (s : State) (one two : List ℕ) → doneBy (Act Trigger) [] s one two ≡ triggered s one two
-unfolding doneBy stateAfter changedBy settingsAfter restoredBy movingAfter externalAfter externalBy storageAfter storageBy registersAfter registersBy enablesAfter eventOf
+unfolding doneBy stateAfter changedBy settingsAfter restoredBy movingAfter externalAfter externalBy storageAfter
+    storageBy registersAfter registersBy enablesAfter eventOf
     sampledIn sampledBy triggerOf
 trig-done s one two = refl
 
-trig-performed : (room : ℕ) (waiting : Bool) (s : State) (one two : List ℕ) → performed room waiting (Act Trigger) s one two ≡ triggered s one two
+trig-performed : (room : ℕ) (waiting : Bool) (s : State) (one two : List ℕ) →
+    performed room waiting (Act Trigger) s one two ≡ triggered s one two
 unfolding performed allowsOf replyOf fitsIn
 trig-performed room waiting s one two = rw (le-leb 0 room (omega arith)) (trig-done s one two)
 
-trig-command : (room : ℕ) (waiting : Bool) (s : State) (one two : List ℕ) → commandOf room waiting (parsedOf (bytes "TRIG")) s one two ≡ triggered s one two
+trig-command : (room : ℕ) (waiting : Bool) (s : State) (one two : List ℕ) →
+    commandOf room waiting (parsedOf (bytes "TRIG")) s one two ≡ triggered s one two
 unfolding commandOf
 trig-command room waiting s one two = rw (says-trig .read) (trig-performed room waiting s one two)
 
 -- the line's call where neither 11 nor 9 refuses it
 trig-call : (room : ℕ) (m : Module) (one two : List ℕ) → guardOf m (length one) (length two) ≡ Done →
-    lineCall room (bytes "TRIG") m one two ≡ ran (afterOf (startLine (m .state) one two) (triggered (m .state) one two)) (m .queue)
+    lineCall room (bytes "TRIG") m one two
+    ≡ ran (afterOf (startLine (m .state) one two) (triggered (m .state) one two)) (m .queue)
 trig-call room m one two e =
-    said-call (bytes "TRIG") (Act Trigger) says-trig room m one two e ∙ rw (trig-performed room false (m .state) one two)
+    said-call (bytes "TRIG") (Act Trigger) says-trig room m one two e
+    ∙ rw (trig-performed room false (m .state) one two)
 
 module _ (room : ℕ) (m : Module) (one two : List ℕ) where
-  both-done : guardOf m (length one) (length two) ≡ Done → DoesAs (lineCall room (bytes "TRIG") m one two) (eventCall event.Trigger m one two)
+  both-done : guardOf m (length one) (length two) ≡ Done →
+      DoesAs (lineCall room (bytes "TRIG") m one two) (eventCall event.Trigger m one two)
   unfolding eventCall guardedEvent afterOf
   both-done e = rw (trig-call room m one two e, e) (record { after = refl; first = refl; second = refl; reply = refl })
 
@@ -74,7 +81,8 @@ module _ (room : ℕ) (m : Module) (one two : List ℕ) where
   unfolding lineCall guarded eventCall guardedEvent
   both-refused r e = rw e (record { after = refl; first = refl; second = refl; reply = refl })
 
-  does-as : (o : Outcome) → guardOf m (length one) (length two) ≡ o → DoesAs (lineCall room (bytes "TRIG") m one two) (eventCall event.Trigger m one two)
+  does-as : (o : Outcome) → guardOf m (length one) (length two) ≡ o →
+      DoesAs (lineCall room (bytes "TRIG") m one two) (eventCall event.Trigger m one two)
   does-as Done e = both-done e
   does-as (Refused r) e = both-refused r e
 

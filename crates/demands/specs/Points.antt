@@ -81,8 +81,8 @@ afterAction action.Start s history = history
 afterAction action.Pause s history = history
 afterAction action.Clear s history = history
 
--- a command that was read: sets and queries store nothing, whether 3 or 4 refuses them or not; the others are refused by
--- neither
+-- a command that was read: sets and queries store nothing, whether 3 or 4 refuses them or not; the others are refused
+-- by neither
 unfoldable pub afterKind : Kind → State → History → History
 afterKind (Set a) s history = history
 afterKind (Query q) s history = history
@@ -168,7 +168,8 @@ pub data Stored : History → Module → List ℕ → List ℕ → Type 0 where
   byByte : (room b : ℕ) (mark : Bool) (history : History) (m : Module) (one two : List ℕ) →
       Stored history m one two →
       Stored (afterByteCall room b mark m one two history)
-      (byteCall room b mark m one two .after) (byteCall room b mark m one two .one) (byteCall room b mark m one two .two)
+      (byteCall room b mark m one two .after)
+      (byteCall room b mark m one two .one) (byteCall room b mark m one two .two)
   byEvent : (e : Event) (history : History) (m : Module) (one two : List ℕ) → Stored history m one two →
       Stored (afterEventCall e m one two history)
       (eventCall e m one two .after) (eventCall e m one two .one) (eventCall e m one two .two)
@@ -224,8 +225,8 @@ pub record Holding (history : History) (m : Module) (one two : List ℕ) : Type 
 abbrev pub heldCount : History → Module → ℕ
 heldCount history m = min (length history) (m .state .unit .capacity)
 
--- SPTS? replies how many points are held, and a trace query replies those from its bin on, each with room for the reply;
--- a trace query that asks for more than are held is refused by 3
+-- SPTS? replies how many points are held, and a trace query replies those from its bin on, each with room for the
+-- reply; a trace query that asks for more than are held is refused by 3
 pub record PointsReplied (history : History) (m : Module) (one two : List ℕ) : Type 0 where
   pub points : (room : ℕ) →
       let out = plain (heldCount history m) ++ (endOf (m .state .unit .port) ∷ []) in
