@@ -1,6 +1,6 @@
 -- The points stored, over every call: document 01, "Storing points".
--- The history is the pairs stored since storage was last emptied, oldest first. What each call does to it is said here;
--- the module and its traces hold its last pairs after every call, and SPTS?, TRCL? and TRCB? reply them.
+-- What each call does to the history of stored pairs is said here. The module and its traces hold the last pairs of it
+-- after every call, and SPTS?, TRCL? and TRCB? reply them.
 use Prim.Native.Nat.{ℕ, _+_, _-_, _%_, _≤_, _<_, min}
 use mathlib.Core.Bool.{Bool, cond}
 use mathlib.Core.Path.{_≡_}
@@ -49,10 +49,11 @@ use Rattle.demands.specs.Demand2.{joined, answered}
 
 -- ---- what a call does to the history
 
+-- the pairs stored since the last emptying, oldest first
 abbrev pub History : Type 0
 History = List Pair
 
--- the latest pair is stored, or not
+-- with the latest pair behind it where that is stored, else as it was
 abbrev pub pairStored : Bool → State → History → History
 pairStored stores s history = cond stores (history ++ (s .latest ∷ [])) history
 
@@ -239,6 +240,7 @@ pub record PointsReplied (history : History) (m : Module) (one two : List ℕ) :
       heldCount history m < bin + count →
       lineCall room (traceQuery form t bin count) m one two .told .answer ≡ answer.Refused NotAllowed 1
 
+-- for every history, module and traces
 abbrev pub RepliesPoints : Type 0
 RepliesPoints =
     (history : History) (m : Module) (one two : List ℕ) → Holding history m one two → PointsReplied history m one two
