@@ -1,20 +1,17 @@
 -- Every call keeps what the module and its traces hold of the history. Assumes nothing.
-use Prim.Native.Nat.{ℕ, _+_, _-_, _%_, _≤_, _<_}
+use Prim.Native.Nat.{ℕ, _+_, _-_, _≤_}
 use native.Mathlib.Nat.{zero-mod}
 use native.Mathlib.Omega.{arith}
 use mathlib.Core.Bool.{Bool, true, false, cond, not, and-eq-true-iff}
 use mathlib.Core.List.{List, [], _∷_, _++_}
 use mathlib.Core.Path.{_≡_, refl, sym, ap, _∙_}
-use lib.Dec.{leb, eqb}
+use lib.Dec.{eqb}
 use lib.ListN.{length, set}
 use lib.Seq.{getD-set-other}
 use borrow.Author.Tests.{eqb-true, eqb-false, eq-eqb, le-leb}
 use Rattle.refusal.specs.declared.Refusal.{Refusal}
-use Rattle.refusal.specs.declared.Refusal.the-variants.{NotAllowed, NoRoom, LongLine}
-use Rattle.refusal.specs.declared.Outcome.{Outcome}
-use Rattle.refusal.specs.declared.Outcome.the-variants.{Done, Refused}
+use Rattle.refusal.specs.declared.Outcome.the-variants.{Refused}
 use Rattle.settings.specs.Table.{oflt, send, fmod, behind, valueOf, withValue}
-use Rattle.settings.specs.declared.Settings.{Settings}
 use Rattle.storage.specs.Storage as storage
 use Rattle.storage.specs.declared.Storage.{Storage}
 use Rattle.storage.proofs.Kept.{facts}
@@ -30,7 +27,7 @@ use Rattle.command.specs.declared.Kind.the-variants.{Set, Query, Act}
 use Rattle.command.specs.declared.Parsed.{Parsed}
 use Rattle.command.specs.declared.Parsed.the-variants as parsed
 use Rattle.status.specs.Status.{withLia, withRaised, mayRaise}
-use Rattle.state.specs.State.{startState, samplingOf, withRegisters, detectionNow, crossedFrom, markedBy}
+use Rattle.state.specs.State.{samplingOf, withRegisters, detectionNow, crossedFrom, markedBy}
 use Rattle.state.specs.Storing.{triggerOf, tickOf, sampledBy, storedIn}
 use Rattle.state.specs.Allowed.{allowedState}
 use Rattle.state.specs.declared.State.{State}
@@ -68,8 +65,7 @@ fits-after s t one two first second k f =
     record {
       allowed = k .allowed (f .allowed);
       first = k .first-length ∙ rw (k .unit) (f .first);
-      second =
-          k .second-length ∙ rw (k .unit) (f .second);
+      second = k .second-length ∙ rw (k .unit) (f .second);
     }
 
 stored-kept : (s : State) → allowedState s ≡ true →
@@ -85,7 +81,7 @@ pub emptied-holds : (t : State) (one two : List ℕ) → t .moving .storage ≡ 
 emptied-holds t one two e =
     record {
       held = ap (λ (x : Storage). x .held) e ∙ omega arith;
-      next = ap (λ (x : Storage). x .next) e ∙ sym (zero-mod (t .unit .capacity));
+      next = ap (λ (x : Storage). x .next) e ∙ omega (arith, zero-mod (t .unit .capacity));
       first = λ n l u. absurd (omega arith);
       second = λ n l u. absurd (omega arith);
       whole = λ e. omega arith;
@@ -149,8 +145,7 @@ module _ (history : History) (s t : State) (one two : List ℕ) (h : Holds histo
         same-holds
         (record {
           held = ap (λ (x : Storage). x .held) e ∙ same .held;
-          next = ap (λ (x : Storage). x .next) e
-              ∙ same .next;
+          next = ap (λ (x : Storage). x .next) e ∙ same .next;
         })
         (λ shot. h .whole (sym end ∙ shot))
 
@@ -160,20 +155,21 @@ module _ (history : History) (s t : State) (one two : List ℕ) (h : Holds histo
     (unit : t .unit ≡ s .unit)
     (end : valueOf (t .settings) send ≡ valueOf (s .settings) send) where
   tick-holds : t .moving .storage ≡ tickOf s .storage
-      → Holds (afterTick s history) t (storedIn (tickOf s) s (s .latest .one) one)
-      (storedIn (tickOf s) s (s .latest .two) two)
+      → Holds (afterTick s history) t
+      (storedIn (tickOf s) s (s .latest .one) one) (storedIn (tickOf s) s (s .latest .two) two)
   unfolding tickOf storage.tickedOf samplingOf storedIn afterTick storage.tickStores
   tick-holds e =
       let by = samplingOf (s .settings) in
       sampled-holds history s t one two h unit f (s .moving .storage) (record { held = refl; next = refl }) end
       (stored-kept s (f .allowed))
       (storage.tickStores (s .moving .storage) by)
-      (λ p. and-eq-true-iff (storage.isRunning (s .moving .storage))
-      (not (eqb (by .rate) storage.externalRate)) .0 p .0) e
+      (λ p.
+      and-eq-true-iff (storage.isRunning (s .moving .storage)) (not (eqb (by .rate) storage.externalRate)) .0 p .0)
+      e
 
   trigger-holds : t .moving .storage ≡ triggerOf s .storage
-      → Holds (afterTrigger s history) t (storedIn (triggerOf s) s (s .latest .one) one)
-      (storedIn (triggerOf s) s (s .latest .two) two)
+      → Holds (afterTrigger s history) t
+      (storedIn (triggerOf s) s (s .latest .one) one) (storedIn (triggerOf s) s (s .latest .two) two)
   unfolding triggerOf storage.triggeredOf samplingOf storedIn afterTrigger storage.triggerStores
   trigger-holds e =
       let by = samplingOf (s .settings) in
@@ -265,8 +261,8 @@ module _ (history : History) (s : State) (one two : List ℕ) (h : Holds history
   unfolding stateAfter changedBy crossedFrom settingsAfter movingAfter storageAfter
   set-holds a k p =
       same-holds history s (stateAfter (Set a) s) one two h refl (record { held = refl; next = refl })
-      (λ shot. settings-set a k p
-      (sym (getD-set-other (setIn (s .settings) a .values) oflt send _ 0 (omega arith)) ∙ shot))
+      (λ shot.
+      settings-set a k p (sym (getD-set-other (setIn (s .settings) a .values) oflt send _ 0 (omega arith)) ∙ shot))
 
   query-holds : (q : QueryArgument) → As (stateAfter (Query q) s)
   unfolding stateAfter changedBy settingsAfter movingAfter storageAfter
@@ -279,8 +275,8 @@ module _ (history : History) (s : State) (one two : List ℕ) (h : Holds history
       afterAction
   act-holds action.Reset reply = emptied-holds (stateAfter (Act action.Reset) s) one two refl
   act-holds action.Empty reply = emptied-holds (stateAfter (Act action.Empty) s) one two refl
-  act-holds action.Trigger reply = trigger-holds history s
-      (stateAfter (Act action.Trigger) s) one two h f refl refl refl
+  act-holds action.Trigger reply =
+      trigger-holds history s (stateAfter (Act action.Trigger) s) one two h f refl refl refl
   act-holds action.Start reply =
       same-holds history s (stateAfter (Act action.Start) s) one two h refl (started-same (s .moving .storage))
       (h .whole)
@@ -337,8 +333,8 @@ module _ (room : ℕ) where
       Holds (afterTexts room texts l history) (n .state) (n .one) (n .two)
   unfolding runAll afterTexts
   run-holds [] l history f h = h
-  run-holds (text ∷ more) l history f h = by (next .dropped)
-      (run-holds more next now (step-fits text l f) (step-holds text l history f h))
+  run-holds (text ∷ more) l history f h =
+      by (next .dropped) (run-holds more next now (step-fits text l f) (step-holds text l history f h))
     where
       next : Line
       next = stepOf room text l

@@ -16,7 +16,7 @@ pub mod Entries
 pub mod Same
 pub mod Demand2
 pub mod Slots
+pub mod History
 pub mod Replies
 pub mod Trigger
-pub mod History
 pub mod Points

@@ -17,17 +17,15 @@ use Rattle.text.proofs.Length.{plain-length, signed-length}
 use Rattle.text.proofs.Again.{read-again}
 use Rattle.name.specs.Names.{meaningOf}
 use Rattle.name.specs.declared.Register.{Register}
+use Rattle.name.specs.declared.Form.{Form}
 use Rattle.name.specs.declared.Meaning.{Meaning}
 use Rattle.name.specs.declared.Meaning.the-variants.{Setting, Channel, ChannelPair, Enable, Trace}
-use Rattle.name.specs.declared.Form.{Form}
 use Rattle.settings.specs.Table.{entries, rowOf}
 use Rattle.settings.specs.Setting.{settingOf}
 use Rattle.settings.specs.Allowed.{keeps}
 use Rattle.settings.proofs.Rows.{row-size, row-decimals}
 use Rattle.command.specs.Arguments.{comma, arguments}
-use Rattle.command.specs.Parsed.{parsedOf, taken, wholeRange, wholeOf, one, two, three, alone, setWith, queryWith}
-use Rattle.command.specs.Parsed.{setSetting, setChannel, setChannelPair, setEnable}
-use Rattle.command.specs.Parsed.{queryChannel, queryChannelPair, queryEnable, queryTrace}
+use Rattle.command.specs.Parsed.{parsedOf, taken, wholeRange, wholeOf, one, two, three, alone, setWith, queryWith, setSetting, setChannel, setChannelPair, setEnable, queryEnable, queryChannel, queryChannelPair, queryTrace}
 use Rattle.command.proofs.Exact.{whole-is}
 use Rattle.command.specs.declared.SetArgument.the-variants as set
 use Rattle.command.specs.declared.QueryArgument.the-variants as query
@@ -57,7 +55,7 @@ module _ (name : List ℕ) (n : Name name) (m : Meaning) (means : meaningOf name
       let c = all-append inCommand name text (n .bytes) b in
       record { short = rw length-append (omega (arith, n .four)); kept = cleaned-same (name ++ text) c; single = parts-free inCommand 59 refl (name ++ text) c; read = e }
 
-  pub query-says : (args : List ℕ) → length args ≤ 251 → all inArguments args ≡ true → queryWith m (arguments args) ≡ taken kind → Says (name ++ (63 ∷ args)) kind
+  query-says : (args : List ℕ) → length args ≤ 251 → all inArguments args ≡ true → queryWith m (arguments args) ≡ taken kind → Says (name ++ (63 ∷ args)) kind
   unfolding begins
   query-says args l b e =
       says (63 ∷ args) (omega arith) (in-command args b) (parsed-name name (63 ∷ args) (n .four) ∙ rw means e)
@@ -66,19 +64,19 @@ module _ (name : List ℕ) (n : Name name) (m : Meaning) (means : meaningOf name
   set-says args l b e =
       says args l (in-command args b) (parsed-name name args (n .four) ∙ rw (begins-other inArguments 63 refl args b, means) e)
 
--- a whole number is a number's text, and is taken as itself where it is in range
+-- a whole number's text is a number, and is taken as itself
 plain-signed : (i : ℕ) → plain i ≡ signedText 0 0 i
 unfolding signedText sign
 plain-signed i =
     let e : distance 0 i ≡ i = omega arith in
     rw (le-ltb i 0 (omega arith), fixed-plain 0 (distance 0 i) refl, e)
 
-pub record Wholly (low high i : ℕ) : Type 0 where
-  pub short : length (plain i) ≤ 5
-  pub number : isNumber (plain i) ≡ true
-  pub value : wholeOf low high (plain i) ≡ Value i
+record Whole (low high i : ℕ) : Type 0 where
+  short : length (plain i) ≤ 5
+  number : isNumber (plain i) ≡ true
+  value : wholeOf low high (plain i) ≡ Value i
 
-pub whole-again : (low high i : ℕ) → low ≤ i → i ≤ high → high ≤ 16383 → Wholly low high i
+whole-again : (low high i : ℕ) → low ≤ i → i ≤ high → high ≤ 99999 → Whole low high i
 whole-again low high i some most few =
     let r = read-as 0 (plain i) (whole 0 i) (rw (plain-signed i) (read-again 0 0 i (omega arith) (omega arith) (omega arith))) in
     record {
@@ -89,7 +87,7 @@ whole-again low high i some most few =
           ∙ taken-whole (wholeRange low high) i some most (omega arith) (omega arith) (omega arith) (mod-one (distance 0 i));
     }
 
-channel-again : (channels i : ℕ) → 1 ≤ i → i ≤ channels → channels ≤ entries → Wholly 1 channels i
+channel-again : (channels i : ℕ) → 1 ≤ i → i ≤ channels → channels ≤ entries → Whole 1 channels i
 channel-again channels i some most few = whole-again 1 channels i some most (omega arith)
 
 -- what is written at an entry is taken alike at an entry with such a row
@@ -127,7 +125,8 @@ text-three : (x y z : List ℕ) → all inNumber x ≡ true → all inNumber y �
     arguments (x ++ comma ∷ (y ++ comma ∷ z)) ≡ x ∷ y ∷ z ∷ []
 text-three x y z b c d =
     let rest = y ++ comma ∷ z in
-    arguments-some (x ++ comma ∷ rest) (joined-some x rest) ∙ parts-joined inNumber comma refl x rest b ∙ ap (λ l. x ∷ l) (text-two y z c d)
+    arguments-some (x ++ comma ∷ rest) (joined-some x rest) ∙ parts-joined inNumber comma refl x rest b
+    ∙ ap (λ l. x ∷ l) (text-two y z c d)
 
 joined-bytes : (x y : List ℕ) → all inNumber x ≡ true → all inArguments y ≡ true → all inArguments (x ++ comma ∷ y) ≡ true
 joined-bytes x y b c = all-append inArguments x (comma ∷ y) (in-arguments x b) c
@@ -204,11 +203,19 @@ module _ (name : List ℕ) (n : Name name) where
           set-says name n (ChannelPair base channels) means (Set (set.Pair e v w)) (plain i ++ comma ∷ rest)
           (rw (length-append, length-append) (omega (arith, c .short, written-short e v h, written-short (e + 1) w k)))
           (joined-bytes (plain i) rest (plain-bytes i) (joined-bytes x y (written-bytes e v) (in-arguments y (written-bytes (e + 1) w))))
-          (rw (text-three (plain i) x y (plain-bytes i) (written-bytes e v) (written-bytes (e + 1) w), c .number, p .number, q .number, c .value, p .value, q .value))
+          (rw (
+            text-three (plain i) x y (plain-bytes i) (written-bytes e v) (written-bytes (e + 1) w),
+            c .number,
+            p .number,
+            q .number,
+            c .value,
+            p .value,
+            q .value,
+          ))
 
   -- a trace query
-  pub trace-asked : (form : Form) (t bin count : ℕ) → meaningOf name ≡ Trace form → 1 ≤ t → t ≤ 2 → bin ≤ 16383 → 1 ≤ count → count ≤ 16383 →
-      Says (name ++ (63 ∷ (plain t ++ comma ∷ (plain bin ++ comma ∷ plain count)))) (Query (query.Trace form t bin count))
+  pub trace-asked : (form : Form) (t bin count : ℕ) → meaningOf name ≡ Trace form → 1 ≤ t → t ≤ 2 → bin ≤ 16383 → 1 ≤ count →
+      count ≤ 16383 → Says (name ++ (63 ∷ (plain t ++ comma ∷ (plain bin ++ comma ∷ plain count)))) (Query (query.Trace form t bin count))
   unfolding queryWith queryTrace three
   trace-asked form t bin count means low high far some most =
       let x = whole-again 1 2 t low high (omega arith) in
@@ -217,5 +224,14 @@ module _ (name : List ℕ) (n : Name name) where
       let rest = plain bin ++ comma ∷ plain count in
       query-says name n (Trace form) means (Query (query.Trace form t bin count)) (plain t ++ comma ∷ rest)
       (rw (length-append, length-append) (omega arith))
-      (joined-bytes (plain t) rest (plain-bytes t) (joined-bytes (plain bin) (plain count) (plain-bytes bin) (in-arguments (plain count) (plain-bytes count))))
-      (rw (text-three (plain t) (plain bin) (plain count) (plain-bytes t) (plain-bytes bin) (plain-bytes count), x .number, y .number, z .number, x .value, y .value, z .value))
+      (joined-bytes (plain t) rest (plain-bytes t)
+      (joined-bytes (plain bin) (plain count) (plain-bytes bin) (in-arguments (plain count) (plain-bytes count))))
+      (rw (
+        text-three (plain t) (plain bin) (plain count) (plain-bytes t) (plain-bytes bin) (plain-bytes count),
+        x .number,
+        y .number,
+        z .number,
+        x .value,
+        y .value,
+        z .value,
+      ))

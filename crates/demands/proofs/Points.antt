@@ -1,5 +1,5 @@
 -- The points stored, over every call: what is held of the history, and what is replied of it. Assumes nothing.
-use Prim.Native.Nat.{ℕ, _≤_}
+use Prim.Native.Nat.{ℕ}
 use native.Mathlib.Omega.{arith}
 use mathlib.Core.Bool.{Bool, true, false, cond, and-eq-true-iff}
 use mathlib.Core.List.{List, []}
@@ -15,7 +15,6 @@ use Rattle.command.specs.declared.QueryArgument.the-variants as query
 use Rattle.state.specs.State.{startState}
 use Rattle.state.specs.Allowed.{allowedState}
 use Rattle.state.specs.declared.Unit.{Unit}
-use Rattle.state.specs.declared.State.{State}
 use Rattle.allow.specs.Allows.{queryAllowed}
 use Rattle.queue.specs.Queue as queue
 use Rattle.queue.specs.declared.Queue.{Queue}
@@ -32,13 +31,13 @@ use Rattle.lockin.specs.Calls.{Call, guarded, ran, tooLong, wholeLine, lineCall
 use Rattle.lockin.specs.Calls.{EventCall, occurred, guardedEvent, eventCall}
 use Rattle.demands.specs.Points.{History, Holds, unlessRefused, afterLine, afterLineCall, afterEnded}
 use Rattle.demands.specs.Points.{afterByteCall, afterEvent, afterEventCall, Stored, byStart, byLine, byByte}
-use Rattle.demands.specs.Points.{byEvent, PointsKept, traceQuery, PointsReplied, RepliesPoints}
+use Rattle.demands.specs.Points.{byEvent, PointsKept, traceQuery, RepliesPoints}
 use Rattle.demands.proofs.Change.{capacity-known}
 use Rattle.demands.proofs.StaysAllowed.{passes, start-by}
 use Rattle.demands.proofs.History.{Fits, emptied-holds, event-holds, marked-holds, line-holds}
 use Rattle.demands.proofs.Says.{asked-call, asked-refused}
-use Rattle.demands.proofs.Replies.{says-points, says-trace, points-same, trace-same, points-reply, trace-allowed}
-use Rattle.demands.proofs.Replies.{trace-reply}
+use Rattle.demands.proofs.Replies.{says-points, says-trace, points-same, trace-same}
+use Rattle.demands.proofs.Replies.{points-reply, trace-allowed, trace-reply}
 
 -- ---- the start
 
@@ -91,10 +90,10 @@ module _ (history : History) (m : Module) (one two : List ℕ) (h : Holds histor
 
   whole-holds : (room : ℕ) (line : List ℕ) → Fits (m .state) one two →
       let c = wholeLine room line m one two in
-      Holds (cond (leb (length line) 256) (afterLine room line (m .state) one two history) history) (c .after .state)
-      (c .one) (c .two)
+      Holds (cond (leb (length line) queue.lineLimit) (afterLine room line (m .state) one two history) history)
+      (c .after .state) (c .one) (c .two)
   unfolding wholeLine
-  whole-holds room line f = by (leb (length line) 256) where
+  whole-holds room line f = by (leb (length line) queue.lineLimit) where
     by : (t : Bool) →
         let c = cond t (ran (lineOf room line (m .state) one two) (m .queue)) (tooLong m (m .queue) one two) in
         Holds (cond t (afterLine room line (m .state) one two history) history) (c .after .state) (c .one) (c .two)
@@ -107,7 +106,8 @@ module _ (history : History) (m : Module) (one two : List ℕ) (h : Holds histor
   unfolding lineCall afterLineCall
   line-kept room line =
       guarded-holds (guardOf m (length one) (length two)) refl (wholeLine room line m one two)
-      (cond (leb (length line) 256) (afterLine room line (m .state) one two history) history) (whole-holds room line)
+      (cond (leb (length line) queue.lineLimit) (afterLine room line (m .state) one two history) history)
+      (whole-holds room line)
 
   ended-holds : (room : ℕ) (e : Ended) (q : Queue) → Fits (m .state) one two →
       let c = fedCall e q room m one two in
@@ -138,11 +138,12 @@ module _ (history : History) (m : Module) (one two : List ℕ) (h : Holds histor
 made-holds : (history : History) (m : Module) (one two : List ℕ) → Stored history m one two →
     Holds history (m .state) one two
 made-holds _ _ _ _ (byStart serial port first second one two) = start-holds serial port first second one two
-made-holds _ _ _ _ (byLine room line history m one two k) = line-kept history m one two
-    (made-holds history m one two k) room line
-made-holds _ _ _ _ (byByte room b mark history m one two k) = byte-kept history m one two
-    (made-holds history m one two k) room b mark
-made-holds _ _ _ _ (byEvent e history m one two k) = event-kept history m one two (made-holds history m one two k) e
+made-holds _ _ _ _ (byLine room line history m one two k) =
+    line-kept history m one two (made-holds history m one two k) room line
+made-holds _ _ _ _ (byByte room b mark history m one two k) =
+    byte-kept history m one two (made-holds history m one two k) room b mark
+made-holds _ _ _ _ (byEvent e history m one two k) =
+    event-kept history m one two (made-holds history m one two k) e
 
 pub points-kept : PointsKept
 points-kept =
@@ -172,7 +173,7 @@ points-replied history m one two k =
           (trace-same s form t bin count)
           (trace-allowed history s one two (k .holds) form t bin count ∙ le-leb _ _ l)
           (trace-reply history s one two (k .holds) (c .least) (f .first) (f .second) form t bin count l) fits;
-      beyond = λ room form t bin count low high some far most l.
+      beyond = λ room form t bin count low high far some most l.
           asked-refused (traceQuery form t bin count) (query.Trace form t bin count)
           (says-trace form t bin count low high far some most) room m one two (k .passes)
           (trace-allowed history s one two (k .holds) form t bin count ∙ lt-leb _ _ l);

@@ -6,15 +6,15 @@ use mathlib.Core.Bool.{Bool, true, false, cond}
 use mathlib.Core.List.{List, [], _∷_, _++_}
 use mathlib.Core.Path.{_≡_, refl, sym, ap, _∙_}
 use lib.Dec.{leb, eqb}
-use lib.ListN.{length, getD, take, drop, length-drop}
+use lib.ListN.{length, take, drop, length-drop}
 use lib.Seq.{drop-cons, getD-drop}
-use borrow.Author.Tests.{le-leb, lt-leb}
+use borrow.Author.Tests.{le-leb}
 use Rattle.divide.specs.Ascii.{bytes}
 use Rattle.divide.specs.Divide.{parts, onHead}
 use Rattle.clean.specs.Clean.{cleaned}
 use Rattle.number.specs.Number.{begins}
 use Rattle.text.specs.Text.{plain}
-use Rattle.refusal.specs.Answer.{firstOf, drops, isNoRoom}
+use Rattle.refusal.specs.Answer.{firstOf, drops}
 use Rattle.refusal.specs.declared.Refusal.the-variants.{NotAllowed}
 use Rattle.refusal.specs.declared.Outcome.the-variants.{Done}
 use Rattle.refusal.specs.declared.Answer.the-variants as answer
@@ -26,28 +26,26 @@ use Rattle.command.specs.Arguments.{arguments}
 use Rattle.command.specs.Parsed.{parsedOf, alone, queryWith}
 use Rattle.command.specs.declared.QueryArgument.{QueryArgument}
 use Rattle.command.specs.declared.QueryArgument.the-variants as query
-use Rattle.command.specs.declared.Kind.{Kind}
 use Rattle.command.specs.declared.Kind.the-variants.{Query}
 use Rattle.storage.specs.Storage.{oldestOf, holdsOf}
 use Rattle.state.specs.Storing.{storedIn}
-use Rattle.state.specs.declared.Pair.{Pair}
 use Rattle.state.specs.declared.State.{State}
 use Rattle.allow.specs.Allows.{queryAllowed, allowsOf}
 use Rattle.change.specs.Change.{settingsAfter, storageAfter, externalAfter, movingAfter, registersAsked, registersAfter}
 use Rattle.change.specs.Change.{enablesAfter, changedBy, stateAfter}
-use Rattle.reply.specs.Reply.{fitsIn, wordAt, formed, pointBytes}
+use Rattle.reply.specs.Reply.{fitsIn, wordAt, pointBytes}
 use Rattle.reply_text.specs.ReplyText.{textOf, endOf}
 use Rattle.answer.specs.Reply.{endedText, traceOf, traceReply, queryReply, replyOf}
 use Rattle.line.specs.Perform.{doneBy, performed}
-use Rattle.line.specs.Line.{startLine, afterOf}
+use Rattle.line.specs.Line.{afterOf}
 use Rattle.module.specs.Module.{guardOf}
 use Rattle.module.specs.declared.Module.{Module}
-use Rattle.lockin.specs.Calls.{guarded, ran, wholeLine, lineCall}
+use Rattle.lockin.specs.Calls.{lineCall}
+use Rattle.demands.specs.Demand2.{answered}
 use Rattle.demands.specs.Points.{History, InSlots, pairAt, Holds, heldOf, wordOf, sentOf, traceName, traceQuery}
-use Rattle.demands.specs.Points.{Holding, PointsReplied, RepliesPoints}
 use Rattle.demands.proofs.Meanings.{Name}
-use Rattle.demands.proofs.Parsing.{trace-asked}
 use Rattle.demands.proofs.Says.{Says}
+use Rattle.demands.proofs.Parsing.{trace-asked}
 use Rattle.demands.proofs.Slots.{bin-mod}
 
 -- ---- points from a bin on
@@ -67,8 +65,8 @@ module _ (form : Form) (t : ℕ) (history : History) (c : ℕ) (trace : List ℕ
       ∙ ap (wordOf t) (sym (getD-drop (length history - c) history j (record { one = 0; two = 0 }))))
 
   sent-is : (j count : ℕ) → j + count ≤ min (length history) c →
-      pointBytes form trace (length history % c + (c - min (length history) c) + j) count ≡ sentOf form t
-      (take count (drop j (heldOf c history)))
+      pointBytes form trace (length history % c + (c - min (length history) c) + j) count
+      ≡ sentOf form t (take count (drop j (heldOf c history)))
   unfolding pointBytes sentOf
   sent-is j zero l = refl
   sent-is j (suc count) l =

@@ -64,11 +64,11 @@ trig-command room waiting s one two = rw (says-trig .read) (trig-performed room 
 
 -- the line's call where neither 11 nor 9 refuses it
 trig-call : (room : ℕ) (m : Module) (one two : List ℕ) → guardOf m (length one) (length two) ≡ Done →
-    lineCall room (bytes "TRIG") m one two ≡ ran (afterOf (startLine (m .state) one two) (triggered (m .state) one two))
-    (m .queue)
+    lineCall room (bytes "TRIG") m one two
+    ≡ ran (afterOf (startLine (m .state) one two) (triggered (m .state) one two)) (m .queue)
 trig-call room m one two e =
-    said-call (bytes "TRIG") (Act Trigger) says-trig room m one two e ∙ rw
-    (trig-performed room false (m .state) one two)
+    said-call (bytes "TRIG") (Act Trigger) says-trig room m one two e
+    ∙ rw (trig-performed room false (m .state) one two)
 
 module _ (room : ℕ) (m : Module) (one two : List ℕ) where
   both-done : guardOf m (length one) (length two) ≡ Done →

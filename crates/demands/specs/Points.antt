@@ -1,5 +1,5 @@
--- The points stored, over every call: document 01, "Storing points". The history is the pairs stored since storage was
--- last emptied, oldest first. What each call does to it is said here; the module and its traces hold its last pairs
+-- The points stored, over every call: document 01, "Storing points".
+-- What each call does to the history of stored pairs is said here. The module and its traces hold the last pairs of it
 -- after every call, and SPTS?, TRCL? and TRCB? reply them.
 use Prim.Native.Nat.{ℕ, _+_, _-_, _%_, _≤_, _<_, min}
 use mathlib.Core.Bool.{Bool, cond}
@@ -37,7 +37,7 @@ use Rattle.line.specs.Line.{Line, startLine, stepOf}
 use Rattle.event.specs.Event.{eventOf}
 use Rattle.event.specs.declared.Event.{Event}
 use Rattle.event.specs.declared.Event.the-variants as event
-use Rattle.queue.specs.Queue.{waitingBytes, fedOf}
+use Rattle.queue.specs.Queue.{lineLimit, waitingBytes, fedOf}
 use Rattle.queue.specs.declared.Queue.{Queue}
 use Rattle.queue.specs.declared.Ended.{Ended}
 use Rattle.queue.specs.declared.Ended.the-variants as ended
@@ -45,14 +45,15 @@ use Rattle.module.specs.Start.{startOf}
 use Rattle.module.specs.Module.{guardOf}
 use Rattle.module.specs.declared.Module.{Module}
 use Rattle.lockin.specs.Calls.{Call, lineCall, byteCall, EventCall, eventCall}
-use Rattle.demands.specs.Demand2.{answered}
+use Rattle.demands.specs.Demand2.{joined, answered}
 
 -- ---- what a call does to the history
 
+-- the pairs stored since the last emptying, oldest first
 abbrev pub History : Type 0
 History = List Pair
 
--- the latest pair is stored, or not
+-- with the latest pair behind it where that is stored, else as it was
 abbrev pub pairStored : Bool → State → History → History
 pairStored stores s history = cond stores (history ++ (s .latest ∷ [])) history
 
@@ -81,8 +82,8 @@ afterAction action.Start s history = history
 afterAction action.Pause s history = history
 afterAction action.Clear s history = history
 
--- a command that was read: sets and queries store nothing, whether 3 or 4 refuses them or not, and neither refuses any
--- other command
+-- a command that was read: sets and queries store nothing, whether 3 or 4 refuses them or not; the others are refused
+-- by neither
 unfoldable pub afterKind : Kind → State → History → History
 afterKind (Set a) s history = history
 afterKind (Query q) s history = history
@@ -111,11 +112,11 @@ unfoldable pub unlessRefused : Outcome → History → History → History
 unlessRefused Done now history = now
 unlessRefused (Refused r) now history = history
 
--- a line handed over whole: one over 256 bytes does not run
+-- a line handed over whole: one over the line limit does not run
 unfoldable pub afterLineCall : ℕ → List ℕ → Module → List ℕ → List ℕ → History → History
 afterLineCall room line m one two history =
     unlessRefused (guardOf m (length one) (length two))
-    (cond (leb (length line) 256) (afterLine room line (m .state) one two history) history) history
+    (cond (leb (length line) lineLimit) (afterLine room line (m .state) one two history) history) history
 
 -- what a byte ends: the line that waits in the queue runs, and nothing else stores
 unfoldable pub afterEnded : Ended → Queue → ℕ → Module → List ℕ → List ℕ → History → History
@@ -123,12 +124,14 @@ afterEnded ended.Nothing q room m one two history = history
 afterEnded ended.Line q room m one two history = afterLine room (waitingBytes q) (m .state) one two history
 afterEnded ended.TooLong q room m one two history = history
 
+-- a byte
 unfoldable pub afterByteCall : ℕ → ℕ → Bool → Module → List ℕ → List ℕ → History → History
 afterByteCall room b mark m one two history =
     let fed = fedOf (m .queue) (m .state .unit .port) b mark in
     unlessRefused (guardOf m (length one) (length two))
     (afterEnded (fed .ended) (fed .queue) room m one two history) history
 
+-- an event
 unfoldable pub afterEventCall : Event → Module → List ℕ → List ℕ → History → History
 afterEventCall e m one two history =
     unlessRefused (guardOf m (length one) (length two)) (afterEvent e (m .state) history) history
@@ -159,16 +162,18 @@ pub record Holds (history : History) (s : State) (one two : List ℕ) : Type 0 w
 pub data Stored : History → Module → List ℕ → List ℕ → Type 0 where
   byStart : (serial port first second : ℕ) (one two : List ℕ) →
       Stored [] (startOf serial port first second .after) one two
-  byLine : (room : ℕ) (line : List ℕ) (history : History) (m : Module) (one two : List ℕ) → Stored history m one two →
+  byLine : (room : ℕ) (line : List ℕ) (history : History) (m : Module) (one two : List ℕ) →
+      Stored history m one two →
       Stored (afterLineCall room line m one two history)
       (lineCall room line m one two .after) (lineCall room line m one two .one) (lineCall room line m one two .two)
-  byByte : (room b : ℕ) (mark : Bool) (history : History) (m : Module) (one two : List ℕ) → Stored history m one two →
+  byByte : (room b : ℕ) (mark : Bool) (history : History) (m : Module) (one two : List ℕ) →
+      Stored history m one two →
       Stored (afterByteCall room b mark m one two history)
-      (byteCall room b mark m one two .after) (byteCall room b mark m one two .one)
-      (byteCall room b mark m one two .two)
+      (byteCall room b mark m one two .after)
+      (byteCall room b mark m one two .one) (byteCall room b mark m one two .two)
   byEvent : (e : Event) (history : History) (m : Module) (one two : List ℕ) → Stored history m one two →
-      Stored (afterEventCall e m one two history) (eventCall e m one two .after) (eventCall e m one two .one)
-      (eventCall e m one two .two)
+      Stored (afterEventCall e m one two history)
+      (eventCall e m one two .after) (eventCall e m one two .one) (eventCall e m one two .two)
 
 -- a start, refused or not, holds the empty history, and every line, byte and event, refused or not, leads on from there
 pub record PointsKept : Type 0 where
@@ -182,11 +187,12 @@ pub record PointsKept : Type 0 where
       Holds history (m .state) one two →
       let c = byteCall room b mark m one two in
       Holds (afterByteCall room b mark m one two history) (c .after .state) (c .one) (c .two)
-  pub event : (e : Event) (history : History) (m : Module) (one two : List ℕ) → Holds history (m .state) one two →
+  pub event : (e : Event) (history : History) (m : Module) (one two : List ℕ) →
+      Holds history (m .state) one two →
       let c = eventCall e m one two in
       Holds (afterEventCall e m one two history) (c .after .state) (c .one) (c .two)
-  pub made : (history : History) (m : Module) (one two : List ℕ) → Stored history m one two →
-      Holds history (m .state) one two
+  pub made : (history : History) (m : Module) (one two : List ℕ) →
+      Stored history m one two → Holds history (m .state) one two
 
 -- ---- what is replied
 
@@ -203,36 +209,41 @@ unfoldable pub sentOf : Form → ℕ → List Pair → List ℕ
 sentOf form t [] = []
 sentOf form t (p ∷ more) = littleEndian (formed form (wordOf t p)) ++ sentOf form t more
 
--- the query of count points of trace t from a bin on; 63 is "?" and 44 is ","
+-- the query of count points of trace t from a bin on, as TRCL?1,0,2; 63 is "?"
 abbrev pub traceName : Form → List ℕ
 traceName Words = bytes "TRCL"
 traceName Floats = bytes "TRCB"
 
 abbrev pub traceQuery : Form → ℕ → ℕ → ℕ → List ℕ
-traceQuery form t bin count = traceName form ++ (63 ∷ (plain t ++ 44 ∷ (plain bin ++ 44 ∷ plain count)))
+traceQuery form t bin count = traceName form ++ (63 ∷ joined (plain t ∷ plain bin ∷ plain count ∷ []))
 
 -- a module that neither 11 nor 9 refuses, its traces, and the history that they hold
 pub record Holding (history : History) (m : Module) (one two : List ℕ) : Type 0 where
   pub passes : guardOf m (length one) (length two) ≡ Done
   pub holds : Holds history (m .state) one two
 
--- SPTS? replies how many points are held, and a trace query replies those from its bin on, or is refused by 3 where it
--- asks for more than are held
+-- how many points are held of a history
+abbrev pub heldCount : History → Module → ℕ
+heldCount history m = min (length history) (m .state .unit .capacity)
+
+-- SPTS? replies how many points are held, and a trace query replies those from its bin on, each with room for the
+-- reply; a trace query that asks for more than are held is refused by 3
 pub record PointsReplied (history : History) (m : Module) (one two : List ℕ) : Type 0 where
   pub points : (room : ℕ) →
-      let out = plain (min (length history) (m .state .unit .capacity)) ++ (endOf (m .state .unit .port) ∷ []) in
+      let out = plain (heldCount history m) ++ (endOf (m .state .unit .port) ∷ []) in
       length out ≤ room → lineCall room (bytes "SPTS?") m one two ≡ answered out m one two
   pub trace : (room : ℕ) (form : Form) (t bin count : ℕ) → 1 ≤ t → t ≤ 2 → 1 ≤ count →
-      bin + count ≤ min (length history) (m .state .unit .capacity) →
+      bin + count ≤ heldCount history m →
       let out = sentOf form t (take count (drop bin (heldOf (m .state .unit .capacity) history))) in
       length out ≤ room → lineCall room (traceQuery form t bin count) m one two ≡ answered out m one two
-  pub beyond : (room : ℕ) (form : Form) (t bin count : ℕ) → 1 ≤ t → t ≤ 2 → 1 ≤ count → bin ≤ 16383 → count ≤ 16383 →
-      min (length history) (m .state .unit .capacity) < bin + count →
+  pub beyond : (room : ℕ) (form : Form) (t bin count : ℕ) → 1 ≤ t → t ≤ 2 → bin ≤ 16383 → 1 ≤ count → count ≤ 16383 →
+      heldCount history m < bin + count →
       lineCall room (traceQuery form t bin count) m one two .told .answer ≡ answer.Refused NotAllowed 1
 
+-- for every history, module and traces
 abbrev pub RepliesPoints : Type 0
-RepliesPoints = (history : History) (m : Module) (one two : List ℕ) → Holding history m one two →
-    PointsReplied history m one two
+RepliesPoints =
+    (history : History) (m : Module) (one two : List ℕ) → Holding history m one two → PointsReplied history m one two
 
 -- ---- TRIG and the trigger event
 
@@ -253,5 +264,5 @@ pub record TrigIsTrigger : Type 0 where
   pub line : (room : ℕ) (m : Module) (one two : List ℕ) →
       DoesAs (lineCall room (bytes "TRIG") m one two) (eventCall event.Trigger m one two)
   pub answers : (room : ℕ) (m : Module) (one two : List ℕ) → guardOf m (length one) (length two) ≡ Done →
-      (lineCall room (bytes "TRIG") m one two .told ≡ toldOf answer.Passed 0) ×
-      (eventCall event.Trigger m one two .outcome ≡ Done)
+      (lineCall room (bytes "TRIG") m one two .told ≡ toldOf answer.Passed 0)
+      × (eventCall event.Trigger m one two .outcome ≡ Done)
