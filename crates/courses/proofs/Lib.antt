@@ -4,6 +4,7 @@ pub mod Storages
 pub mod Between
 pub mod Gap
 pub mod Found
+pub mod Fresh
 pub mod Commands
 pub mod Sound
 pub mod Witness

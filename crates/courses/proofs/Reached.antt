@@ -20,12 +20,12 @@ use Rattle.module.specs.Module.{allowedModule, guardOf}
 use Rattle.two_courses.specs.Courses.{gapOf, measuredHigh}
 use Rattle.two_courses.specs.declared.Both.{Both}
 use Rattle.script.specs.Check.{textsAnswer, textsAfter, tooLong}
-use Rattle.courses.specs.Course.{World, lineIn, afterLine, afterEvent, afterEvents, Gap, Gaps, after, crowded, Roomy, answerOf}
+use Rattle.courses.specs.Course.{World, lineIn, afterLine, afterEvent, afterEvents, Gap, Gaps, after, crowded, Roomy, EventsFit, answerOf}
 use Rattle.courses.proofs.Alike.{Alike}
 use Rattle.courses.proofs.Found as found
 use Rattle.courses.proofs.Found.{stop, lineAnswer, not-passed, not-done, found-here, found-later, end-stop}
 use Rattle.courses.proofs.Sound.{Open, line-open, event-open, event-is, line-short, events-open}
-use Rattle.courses.proofs.Witness.{Side, low, high, At, at-run, run-refuses, highest, eventsOf, measured-at, triggered-at}
+use Rattle.courses.proofs.Witness.{Side, low, high, At, at-run, run-refuses, highest, eventsOf, events-fit, measured-at, triggered-at}
 use Rattle.courses.proofs.Rooms.{roomFor, room-enough}
 
 open-allowed : (w : World) → Open w → allowedModule (w .core) ≡ true
@@ -113,6 +113,11 @@ unfolding gapsFor
 gaps-roomy d capacity [] b w = tt
 gaps-roomy d capacity (l ∷ ls) b w =
     (room-enough l (afterEvents (eventsOf d b) w), gaps-roomy d capacity ls (found.afterLine capacity l b) (after (gapFor d b l w) l w))
+
+pub gaps-fit : (d : Side) (capacity : ℕ) (ls : List (List ℕ)) (b : Both) (w : World) → EventsFit ls (gapsFor d capacity ls b w)
+unfolding gapsFor
+gaps-fit d capacity [] b w = tt
+gaps-fit d capacity (l ∷ ls) b w = (events-fit d b, gaps-fit d capacity ls (found.afterLine capacity l b) (after (gapFor d b l w) l w))
 
 pub reached : (capacity : ℕ) (ls : List (List ℕ)) (b : Both) (k p : ℕ) (r : Refusal) → found.found capacity ls b ≡ stop k p r → r ≢ NoReset → r ≢ LongScriptLine
     → (d : Side) × ((w : World) → Open w → At d capacity b (w .core .state) → answerOf ls (gapsFor d capacity ls b w) w k ≡ Refused r p)

@@ -28,8 +28,8 @@ Word x = x < 2 ^ 32
 abbrev pub Count : ℕ → Type 0
 Count x = x < 2 ^ 64
 
--- every number of a list is such a one
-abbrev pub Every : (ℕ → Type 0) → List ℕ → Type 0
+-- everything in a list is such a one
+abbrev pub Every : {A : Type 0} → (A → Type 0) → List A → Type 0
 Every Such [] = Unit {0}
 Every Such (x ∷ xs) = Such x × Every Such xs
 
