@@ -38,12 +38,12 @@ use Rattle.courses.proofs.Led.{seven-eight, led-fine, led-none, led-sev
 -- ---- any course, where the check begins
 
 module _ (capacity : ℕ) (lines : List (List ℕ)) (k : Course capacity lines) where
+  course-sim : Sim capacity startBoth (k .start .core .state)
+  course-sim = record { same = k .told; begun = λ e. absurd (false≢true e) }
+
   course-open : Open (k .start)
   unfolding guardOf
   course-open = rw (k .allowed, k .told, k .first, k .second, eq-eqb capacity capacity refl) refl
-
-  course-sim : Sim capacity startBoth (k .start .core .state)
-  course-sim = record { same = k .told; begun = λ e. absurd (false≢true e) }
 
 -- ---- the check's two courses, from a fresh module
 
