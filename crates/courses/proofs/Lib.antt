@@ -8,6 +8,7 @@ pub mod Fresh
 pub mod Commands
 pub mod Sound
 pub mod Witness
+pub mod Sized
 pub mod Rooms
 pub mod Reached
 pub mod Long

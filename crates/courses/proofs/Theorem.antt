@@ -6,7 +6,7 @@ use mathlib.Core.Path.{_≡_, refl, sym, ap, _∙_}
 use mathlib.Core.Logic.{_≢_, _↔_}
 use mathlib.Core.List.{List, [], _∷_}
 use lib.Dec.{leb, ltb}
-use lib.ListN.{getD, length-replicate}
+use lib.ListN.{length, getD, length-replicate}
 use borrow.Author.Tests.{eq-eqb, ltb-true, ltb-false, leb-true, leb-false}
 use Rattle.refusal.specs.declared.Refusal.{Refusal}
 use Rattle.refusal.specs.declared.Refusal.the-variants.{Malformed, OutOfRange, NotAllowed, NoRoom, LongLine, BadEvent, NoReset, LongScriptLine, BadTraces, BadStart, BadState}
@@ -15,7 +15,7 @@ use Rattle.command.specs.declared.Parsed.{Parsed}
 use Rattle.state.specs.State.{startState}
 use Rattle.refusal.specs.declared.Answer.the-variants.{Passed, Refused}
 use Rattle.module.specs.Start.{freshModule}
-use Rattle.module.specs.Module.{guardOf}
+use Rattle.module.specs.Module.{allowedModule, guardOf}
 use Rattle.two_courses.specs.Courses.{startBoth}
 use Rattle.script.specs.Check.{tooLong, linesOf, capacityFits, checkOf}
 use Rattle.verdict.specs.declared.Verdict.{Verdict}
@@ -31,19 +31,24 @@ use Rattle.courses.proofs.Commands.{Sim}
 use Rattle.courses.proofs.Sound.{Open, line-open, line-long, events-open, script-fine, script-before, script-earlier}
 use Rattle.courses.proofs.Witness.{Side, low, high, At}
 use Rattle.courses.proofs.Fresh.{fits-start, unfit-start, start-fits, start-unfit, fresh-core, fresh-fits}
+use Rattle.courses.proofs.Sized.{Sized}
 use Rattle.courses.proofs.Reached.{gapsFor, gaps-roomy, gaps-fit, reached}
 use Rattle.courses.proofs.Long.{numberOf, short-fine, short-none, short-before, short-here, long-here, stop-number}
 use Rattle.courses.proofs.Led.{seven-eight, led-fine, led-none, led-seven, led-other, led-before}
 
 -- ---- any course, where the check begins
 
+world-open : (capacity : ℕ) (w : World) → allowedModule (w .core) ≡ true → w .core .state .unit .capacity ≡ capacity
+    → length (w .one) ≡ capacity → length (w .two) ≡ capacity → Open w
+unfolding guardOf
+world-open capacity w a t f s = rw (a, t, f, s, eq-eqb capacity capacity refl) refl
+
 module _ (capacity : ℕ) (lines : List (List ℕ)) (k : Course capacity lines) where
   course-sim : Sim capacity startBoth (k .start .core .state)
   course-sim = record { same = k .told; begun = λ e. absurd (false≢true e) }
 
   course-open : Open (k .start)
-  unfolding guardOf
-  course-open = rw (k .allowed, k .told, k .first, k .second, eq-eqb capacity capacity refl) refl
+  course-open = world-open capacity (k .start) (k .allowed) (k .told) (k .first) (k .second)
 
 -- ---- the check's two courses, from a fresh module
 
@@ -51,6 +56,17 @@ module _ (capacity : ℕ) (fits : capacityFits capacity ≡ true) where
   fresh-at : (d : Side) → At d capacity startBoth (freshWorld capacity .core .state)
   fresh-at low = rw (fresh-core capacity fits) (unfold freshModule startState in record { same = refl; alike = alike-self _; moving = refl })
   fresh-at high = rw (fresh-core capacity fits) (unfold freshModule startState in record { same = refl; alike = alike-self _; moving = refl })
+
+  fresh-open : Open (freshWorld capacity)
+  unfolding freshWorld
+  fresh-open =
+      world-open capacity (freshWorld capacity) (stays-allowed .start 0 1 capacity capacity) (fresh-at low .same) (length-replicate capacity 0)
+      (length-replicate capacity 0)
+
+  fresh-sized : Sized (freshWorld capacity .core .state)
+  fresh-sized =
+      let k = fresh-fits capacity fits .core .state in
+      record { full = k .full; registers = k .registers; enables = k .enables }
 
   course-of : (d : Side) (lines : List (List ℕ)) → Course capacity lines
   unfolding freshWorld
@@ -62,9 +78,9 @@ module _ (capacity : ℕ) (fits : capacityFits capacity ≡ true) where
         first = length-replicate capacity 0;
         second = length-replicate capacity 0;
         fits = fresh-fits capacity fits;
-        gaps = gapsFor d capacity lines startBoth (freshWorld capacity);
-        events = gaps-fit d capacity lines startBoth (freshWorld capacity);
-        rooms = gaps-roomy d capacity lines startBoth (freshWorld capacity);
+        gaps = gapsFor d capacity lines startBoth;
+        gaps-fit = gaps-fit d capacity lines startBoth;
+        rooms = gaps-roomy d capacity lines startBoth (freshWorld capacity) fresh-open fresh-sized;
       }
 
   -- it starts so
@@ -183,7 +199,7 @@ module _ (capacity : ℕ) (lines : List (List ℕ)) where
         record {
           witness = k;
           fresh = course-fresh capacity fits (w .0) lines;
-          refuses = (w .1) (k .start) (course-open capacity lines k) (fresh-at capacity fits (w .0));
+          refuses = (w .1) (k .start) (course-open capacity lines k) (k .rooms) (fresh-at capacity fits (w .0));
           before = course-before;
           earlier = course-earlier;
         }

@@ -16,7 +16,7 @@ use Rattle.module.specs.Start.{unitKnown, startOf}
 use Rattle.module.specs.Module.{allowedModule}
 use Rattle.module.specs.declared.Module.{Module}
 use Rattle.lockin.specs.Calls.{Call, EventCall, lineCall, eventCall}
-use Rattle.demands.specs.Representable.{Every, Word, ModuleFits, EventFits}
+use Rattle.demands.specs.Representable.{Every, Word, Count, ModuleFits, EventFits}
 
 -- a module and its two traces: what a call is given, and what it returns or leaves
 pub record World : Type 0 where
@@ -94,15 +94,19 @@ abbrev pub Roomy : (ls : List (List ℕ)) → Gaps ls → World → Type 0
 Roomy [] g w = Unit {0}
 Roomy (l ∷ ls) g w = (crowded (g .0 .room) l (before (g .0) w) ≡ false) × Roomy ls (g .1) (after (g .0) l w)
 
--- every event is one that there can be
-abbrev pub EventsFit : (ls : List (List ℕ)) → Gaps ls → Type 0
-EventsFit [] g = Unit {0}
-EventsFit (l ∷ ls) g = Every EventFits (g .0 .events) × EventsFit ls (g .1)
+-- the events are ones that there can be, and the room is the length of a buffer that there can be
+pub record GapFits (g : Gap) : Type 0 where
+  pub events : Every EventFits (g .events)
+  pub room : Count (g .room)
+
+abbrev pub GapsFit : (ls : List (List ℕ)) → Gaps ls → Type 0
+GapsFit [] g = Unit {0}
+GapsFit (l ∷ ls) g = GapFits (g .0) × GapsFit ls (g .1)
 
 -- ---- the course
 
 -- A module that 11 does not refuse, of the capacity told, and two traces of that length; for each line, events and a reply room that is not too small.
--- The module, the traces and the events are ones that there can be.
+-- The module, the traces, the events and the rooms are ones that there can be.
 pub record Course (capacity : ℕ) (lines : List (List ℕ)) : Type 0 where
   pub start : World
   pub allowed : allowedModule (start .core) ≡ true
@@ -111,7 +115,7 @@ pub record Course (capacity : ℕ) (lines : List (List ℕ)) : Type 0 where
   pub second : length (start .two) ≡ capacity
   pub fits : WorldFits start
   pub gaps : Gaps lines
-  pub events : EventsFit lines gaps
+  pub gaps-fit : GapsFit lines gaps
   pub rooms : Roomy lines gaps start
 
 -- the answer of the line behind so many others
