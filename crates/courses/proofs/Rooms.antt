@@ -1,5 +1,5 @@
 -- A room that is not too small for any line, in a state that 11 does not refuse.
-use Prim.Native.Nat.{ℕ, suc, _+_, _-_, _*_, _^_, _≤_, _<_}
+use Prim.Native.Nat.{ℕ, _+_, _-_, _*_, _^_, _≤_, _<_}
 use native.Mathlib.Omega.{arith}
 use mathlib.Core.Bool.{Bool, true, false, cond, and-eq-true-iff, false≢true}
 use mathlib.Core.Path.{_≡_, refl, sym, ap, _∙_}
@@ -47,10 +47,10 @@ use Rattle.event.proofs.Crossed.{sound}
 use Rattle.line.specs.Perform.{Effect, refusedBy, doneBy, performed, commandOf}
 use Rattle.refusal.specs.Answer.{isNoRoom, drops}
 use Rattle.line.specs.Line.{Line, waits, afterOf, stepOf, runAll, startLine, lineOf}
-use Rattle.divide.specs.Divide.{onHead, parts}
 use Rattle.clean.specs.Clean.{cleaned}
 use Rattle.clean.specs.Texts.{semicolon, textsOf}
 use Rattle.clean.proofs.Bound.{cleaned-length}
+use Rattle.script.proofs.Parts.{parts-length}
 use Rattle.lockin.specs.Calls as calls
 use Rattle.lockin.specs.Calls.{guarded, wholeLine, lineCall}
 use Rattle.demands.proofs.Again.{kept-size}
@@ -224,22 +224,7 @@ run-fits room (t ∷ ts) l a k e h =
     cond-rest (next .dropped) next (runAll room ts next) (λ (x : Line). (x .dropped ≡ false) × Sized (x .state)) (g .kept)
     (run-fits room ts next (g .allowed) (g .sized) (g .kept) (omega (arith, g .short)))
 
--- a line of at most 256 bytes has at most 257 commands
-head-length : (b : ℕ) (ps : List (List ℕ)) → length (onHead b ps) ≤ suc (length ps)
-unfolding onHead
-head-length b [] = omega arith
-head-length b (p ∷ ps) = omega arith
-
-parts-length : (sep : ℕ) (s : List ℕ) → length (parts sep s) ≤ suc (length s)
-unfolding parts
-parts-length sep [] = omega arith
-parts-length sep (b ∷ bs) = by (eqb b sep) (parts-length sep bs) (head-length b (parts sep bs)) where
-  by : (t : Bool) → length (parts sep bs) ≤ suc (length bs) → length (onHead b (parts sep bs)) ≤ suc (length (parts sep bs))
-      → length (cond t ([] ∷ parts sep bs) (onHead b (parts sep bs))) ≤ suc (suc (length bs))
-  by true h g = omega arith
-  by false h g = omega arith
-
--- room for that many of the longest replies
+-- a line of at most 256 bytes has at most 257 commands: room for that many of the longest replies
 abbrev pub enough : ℕ
 enough = 257 * most
 
