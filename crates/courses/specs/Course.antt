@@ -1,5 +1,5 @@
--- A course through a script. The term is document 01's, "The script check", which lays down what a course starts from, what happens before each line, and
--- that no reply room is too small.
+-- A course through a script. The term is document 01's, "The script check", which lays down what a course starts from,
+-- what happens before each line, and that no reply room is too small.
 use Prim.Native.Nat.{ℕ, zero, suc}
 use mathlib.Core.Bool.{Bool, true, false, cond}
 use mathlib.Core.Path.{_≡_}
@@ -7,6 +7,7 @@ use mathlib.Core.List.{List, [], _∷_}
 use lib.Dec.{leb}
 use lib.ListN.{length, replicate}
 use Rattle.event.specs.declared.Event.{Event}
+use Rattle.queue.specs.Queue.{lineLimit}
 use Rattle.line.specs.Line.{lineOf}
 use Rattle.refusal.specs.declared.Outcome.{Outcome}
 use Rattle.refusal.specs.declared.Outcome.the-variants.{Done}
@@ -24,7 +25,7 @@ pub record World : Type 0 where
   pub one : List ℕ
   pub two : List ℕ
 
--- they are ones that there can be
+-- a module and traces that there can be: values, words and bytes of the sizes that the machine has for them
 pub record WorldFits (w : World) : Type 0 where
   pub core : ModuleFits (w .core)
   pub one : Every Word (w .one)
@@ -32,17 +33,23 @@ pub record WorldFits (w : World) : Type 0 where
 
 -- ---- the start
 
--- what a start over two traces of a length answers, whatever the serial number and the port, as long as a start takes these
+-- what the start answers over two traces of a length, with any serial number and port that a start takes
 abbrev pub StartAnswers : ℕ → Outcome → Type 0
-StartAnswers capacity o = (serial port : ℕ) → unitKnown serial port ≡ true → startOf serial port capacity capacity .outcome ≡ o
+StartAnswers capacity o =
+    (serial port : ℕ) → unitKnown serial port ≡ true → startOf serial port capacity capacity .outcome ≡ o
 
 -- a module of a capacity can be started
 abbrev pub Startable : ℕ → Type 0
 Startable capacity = StartAnswers capacity Done
 
--- a module of a capacity as it is started, serial number 0 and port GPIB, with all words of both traces 0
+-- a module as the start makes it, with serial number 0 and port GPIB, and two traces with all words 0
 unfoldable pub freshWorld : ℕ → World
-freshWorld capacity = record { core = startOf 0 1 capacity capacity .after; one = replicate capacity 0; two = replicate capacity 0 }
+freshWorld capacity =
+    record {
+      core = startOf 0 1 capacity capacity .after;
+      one = replicate capacity 0;
+      two = replicate capacity 0;
+    }
 
 -- ---- the calls
 
@@ -68,7 +75,8 @@ unfoldable pub afterEvents : List Event → World → World
 afterEvents [] w = w
 afterEvents (e ∷ es) w = afterEvents es (afterEvent e w)
 
--- what a course has for a line: the events before it, also such as are refused or change nothing, and the line's reply room
+-- what a course has for a line: the events before it, those that are refused or change nothing among them, and the
+-- line's reply room
 pub record Gap : Type 0 where
   pub events : List Event
   pub room : ℕ
@@ -78,23 +86,24 @@ abbrev pub Gaps : List (List ℕ) → Type 0
 Gaps [] = Unit {0}
 Gaps (l ∷ ls) = Gap × Gaps ls
 
--- what a line is called with, its events having happened, and what is left after it
+-- what a line is called with, once its events have happened, and what is left after it
 abbrev pub before : Gap → World → World
 before g w = afterEvents (g .events) w
 
 abbrev pub after : Gap → List ℕ → World → World
 after g line w = afterLine (g .room) line (before g w)
 
--- whether a line that runs is refused by 4, a reply exceeding the room left, which drops the rest of the line
+-- whether the room is too small for a line that runs: then 4 refuses a command of it and drops the rest
 unfoldable pub crowded : ℕ → List ℕ → World → Bool
-crowded room line w = cond (leb (length line) 256) (lineOf room line (w .core .state) (w .one) (w .two) .dropped) false
+crowded room line w =
+    cond (leb (length line) lineLimit) (lineOf room line (w .core .state) (w .one) (w .two) .dropped) false
 
--- no line is
+-- no room is too small
 abbrev pub Roomy : (ls : List (List ℕ)) → Gaps ls → World → Type 0
 Roomy [] g w = Unit {0}
 Roomy (l ∷ ls) g w = (crowded (g .0 .room) l (before (g .0) w) ≡ false) × Roomy ls (g .1) (after (g .0) l w)
 
--- the events are ones that there can be, and the room is the length of a buffer that there can be
+-- events that there can be, and a room that is the length of a buffer that there can be; then for each line
 pub record GapFits (g : Gap) : Type 0 where
   pub events : Every EventFits (g .events)
   pub room : Count (g .room)
@@ -105,8 +114,8 @@ GapsFit (l ∷ ls) g = GapFits (g .0) × GapsFit ls (g .1)
 
 -- ---- the course
 
--- A module that 11 does not refuse, of the capacity told, and two traces of that length; for each line, events and a reply room that is not too small.
--- The module, the traces, the events and the rooms are ones that there can be.
+-- A module that 11 does not refuse, of the capacity told, and two traces of that length; for each line, events and a
+-- reply room that is not too small. The module, the traces, the events and the rooms are ones that there can be.
 pub record Course (capacity : ℕ) (lines : List (List ℕ)) : Type 0 where
   pub start : World
   pub allowed : allowedModule (start .core) ≡ true

@@ -1,9 +1,9 @@
--- Demand 3: what each verdict of the script check says of every course. Document 01, "The script check", which lays down what "begins with *RST" means, when
--- a course refuses a command, and which command is the first.
+-- Demand 3: what each verdict of the script check says of every course. Document 01, "The script check", lays down when a
+-- script begins with *RST, when a course refuses a command, and which command is the first.
 --
--- Neither a check that always says no nor one that always says yes meets it: a script of `*RST` alone passes, and an empty one does not
--- (crates/examples/specs/Scripts.antt). As wrong programs these two are always_no and always_yes of crates/script/must-fail; wrong statements of demand 3
--- itself are in crates/courses/must-fail.
+-- Neither a check that always says no nor one that always says yes meets this: a script of `*RST` alone passes, and an
+-- empty one does not (crates/examples/specs/Scripts.antt). As wrong programs these two are always_no and always_yes of
+-- crates/script/must-fail. Wrong statements of demand 3 are in crates/courses/must-fail.
 use Prim.Native.Nat.{ℕ, zero, suc, _+_, _≤_, _<_}
 use mathlib.Core.Bool.{Bool, true, false}
 use mathlib.Core.Path.{_≡_}
@@ -76,15 +76,16 @@ begins (first line place c) = isReset c
 abbrev pub PassedBefore : ℕ → List (List ℕ) → ℕ → Type 0
 PassedBefore capacity lines n = (k : Course capacity lines) (m : ℕ) → m < n → answers k m ≡ answer.Passed
 
--- Yes: in every course every line answers 0; with it, a module of the capacity can be started, the script begins with *RST and no line is over 256 bytes.
+-- Yes: in every course every line answers 0; with it, a module of the capacity can be started, the script begins with
+-- *RST and no line is over 256 bytes.
 pub record AllPass (capacity : ℕ) (lines : List (List ℕ)) : Type 0 where
   pub startable : Startable capacity
   pub begun : begins (leadOf lines) ≡ true
   pub short : (n : ℕ) → Short lines n
   pub passed : (k : Course capacity lines) (n : ℕ) → answers k n ≡ answer.Passed
 
--- No, at a command and by another number than 7: line n of some course, which starts from a fresh module, answers that place and number; in every course
--- the lines before it answer 0, and line n refuses nothing at an earlier place.
+-- No, at a command and by another number than 7: line n of some course, which starts from a fresh module, answers that
+-- place and number; in every course the lines before it answer 0, and line n refuses nothing at an earlier place.
 pub record FirstRefused (capacity : ℕ) (lines : List (List ℕ)) (n place : ℕ) (r : Refusal) : Type 0 where
   pub witness : Course capacity lines
   pub fresh : witness .start ≡ freshWorld capacity
@@ -92,13 +93,15 @@ pub record FirstRefused (capacity : ℕ) (lines : List (List ℕ)) (n place : �
   pub before : PassedBefore capacity lines n
   pub earlier : (k : Course capacity lines) (q : ℕ) (s : Refusal) → answers k n ≡ answer.Refused s q → place ≤ q
 
--- 7: the first command that is not empty is another than *RST, and no line up to it is over 256 bytes; or there is no such command in the whole script,
--- which is told at line 1, place 1
+-- 7: the first command that is not empty is another than *RST, and no line up to it is over 256 bytes; or no command of
+-- the script is not empty, which is told at line 1, place 1
 pub data NotBegun (lines : List (List ℕ)) : ℕ → ℕ → Type 0 where
-  other : (n place : ℕ) (c : Parsed) → leadOf lines ≡ first n place c → isReset c ≡ false → ((m : ℕ) → m ≤ n → Short lines m) → NotBegun lines n place
+  other : (n place : ℕ) (c : Parsed) → leadOf lines ≡ first n place c → isReset c ≡ false
+      → ((m : ℕ) → m ≤ n → Short lines m) → NotBegun lines n place
   nothing : leadOf lines ≡ none → ((m : ℕ) → Short lines m) → NotBegun lines 1 1
 
--- 8, at place 0: line n is over 256 bytes; a first command on a line before it is *RST, and in every course all lines before it answer 0
+-- 8, at place 0: line n is over 256 bytes; a first command on a line before it is *RST, and in every course all lines
+-- before it answer 0
 pub record LongAt (capacity : ℕ) (lines : List (List ℕ)) (n place : ℕ) : Type 0 where
   pub nowhere : place ≡ 0
   pub long : tooLong (lineAt lines n) ≡ true
@@ -108,12 +111,16 @@ pub record LongAt (capacity : ℕ) (lines : List (List ℕ)) (n place : ℕ) : T
 -- the claim, of a capacity and a script
 pub record Demand3 (capacity : ℕ) (script : List ℕ) : Type 0 where
   pub yes : (checkOf capacity script ≡ Fine) ↔ AllPass capacity (linesOf script)
-  pub no : (n place : ℕ) (r : Refusal) → checkOf capacity script ≡ No n place r → r ≢ NoReset → r ≢ LongScriptLine → r ≢ BadTraces
-      → FirstRefused capacity (linesOf script) n place r
-  pub seven : (n place : ℕ) → (checkOf capacity script ≡ No n place NoReset) ↔ (Startable capacity × NotBegun (linesOf script) n place)
-  pub eight : (n place : ℕ) → (checkOf capacity script ≡ No n place LongScriptLine) ↔ (Startable capacity × LongAt capacity (linesOf script) n place)
-  -- 9, at line 0 and place 0: a start refuses traces of that length
+  pub no : (n place : ℕ) (r : Refusal) → checkOf capacity script ≡ No n place r
+      → r ≢ NoReset → r ≢ LongScriptLine → r ≢ BadTraces → FirstRefused capacity (linesOf script) n place r
+  pub seven : (n place : ℕ)
+      → (checkOf capacity script ≡ No n place NoReset) ↔ (Startable capacity × NotBegun (linesOf script) n place)
+  pub eight : (n place : ℕ)
+      → (checkOf capacity script ≡ No n place LongScriptLine)
+      ↔ (Startable capacity × LongAt capacity (linesOf script) n place)
+  -- 9, at line 0 and place 0: the start refuses two traces of that length by 9
   pub nine : (n place : ℕ)
-      → (checkOf capacity script ≡ No n place BadTraces) ↔ (StartAnswers capacity (outcome.Refused BadTraces) × (n ≡ 0) × (place ≡ 0))
+      → (checkOf capacity script ≡ No n place BadTraces)
+      ↔ (StartAnswers capacity (outcome.Refused BadTraces) × (n ≡ 0) × (place ≡ 0))
   -- there are courses to speak of, from a fresh module
   pub course : Startable capacity → (k : Course capacity (linesOf script)) × (k .start ≡ freshWorld capacity)
