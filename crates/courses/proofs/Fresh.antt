@@ -1,4 +1,4 @@
--- The start of a course: by the start's own answer a capacity is legal or not, and what is started is a world that there can be.
+-- The start of a course: its answer tells whether a capacity is legal, and what it makes is one that there can be.
 use Prim.Native.Nat.{ℕ, zero, suc, _^_, _<_}
 use native.Mathlib.Omega.{arith}
 use mathlib.Core.Bool.{Bool, true, false, cond, and-eq-true-iff}
@@ -62,7 +62,9 @@ freshUnit capacity = record { serial = 0; port = 1; capacity = capacity }
 
 every-below : (n : ℕ) (xs : List ℕ) → all (λ x. ltb x n) xs ≡ true → Every (λ x. x < n) xs
 every-below n [] e = tt
-every-below n (x ∷ xs) e = let p = and-eq-true-iff (ltb x n) (all (λ x. ltb x n) xs) .0 e in (ltb-true x n (p .0), every-below n xs (p .1))
+every-below n (x ∷ xs) e =
+    let p = and-eq-true-iff (ltb x n) (all (λ x. ltb x n) xs) .0 e in
+    (ltb-true x n (p .0), every-below n xs (p .1))
 
 every-replicate : (Such : ℕ → Type 0) (x : ℕ) → Such x → (n : ℕ) → Every Such (replicate n x)
 every-replicate Such x k zero = tt
@@ -78,7 +80,7 @@ module _ (capacity : ℕ) (fits : capacityFits capacity ≡ true) where
   fresh-core = rw (eq-eqb capacity capacity refl, fits) refl
 
   small : capacity < 2 ^ 32
-  small = let p = leb-true capacity 16383 (and-eq-true-iff (leb 1 capacity) (leb capacity 16383) .0 fits .1) in omega arith
+  small = omega (arith, leb-true capacity 16383 (and-eq-true-iff (leb 1 capacity) (leb capacity 16383) .0 fits .1))
 
   module-fits : ModuleFits (freshModule (freshUnit capacity))
   unfolding freshModule startState startSettings table
@@ -92,7 +94,8 @@ module _ (capacity : ℕ) (fits : capacityFits capacity ≡ true) where
               held = omega arith;
               next = omega arith;
               registers = record { standard = omega arith; lia = omega arith; errors = omega arith };
-              enables = record { standard = omega arith; service = omega arith; lia = omega arith; errors = omega arith };
+              enables =
+                  record { standard = omega arith; service = omega arith; lia = omega arith; errors = omega arith };
               latest = (omega arith, omega arith);
               unit = (omega arith, omega arith, small);
             };

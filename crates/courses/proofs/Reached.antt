@@ -91,13 +91,15 @@ module _ (capacity : ℕ) (b : Both) (l : List ℕ) where
 
 -- ---- a whole course of that side
 
-events-sized : (d : Side) (b : Both) (w : World) → Open w → Sized (w .core .state) → Sized (afterEvents (eventsOf d b) w .core .state)
+events-sized : (d : Side) (b : Both) (w : World) → Open w → Sized (w .core .state)
+    → Sized (afterEvents (eventsOf d b) w .core .state)
 unfolding eventsOf afterEvents
 events-sized low b w o k = k
 events-sized high b w o k =
     let m = Measured (highest (b .settings)) in
     let v = afterEvent m w in
-    let n : Sized (v .core .state) = rw (event-is w o m) (measured-sized (highest (b .settings)) (w .core .state) (w .one) (w .two) k) in
+    let f = highest (b .settings) in
+    let n : Sized (v .core .state) = rw (event-is w o m) (measured-sized f (w .core .state) (w .one) (w .two) k) in
     rw (event-is v (event-open w o m) Trigger) (trigger-sized (v .core .state) (v .one) (v .two) n)
 
 abbrev gapFor : Side → Both → Gap
@@ -114,8 +116,11 @@ gaps-roomy d capacity [] b w o k = tt
 gaps-roomy d capacity (l ∷ ls) b w o k =
     let v = afterEvents (eventsOf d b) w in
     let u = events-open (eventsOf d b) w o in
-    let n = events-sized d b w o k in
-    (room-enough l v u n, gaps-roomy d capacity ls (found.afterLine capacity l b) (afterLine enough l v) (line-open v u enough l) (line-sized l v u n))
+    let n = events-sized d b w o k in (
+      room-enough l v u n,
+      gaps-roomy d capacity ls (found.afterLine capacity l b) (afterLine enough l v) (line-open v u enough l)
+          (line-sized l v u n),
+    )
 
 pub gaps-fit : (d : Side) (capacity : ℕ) (ls : List (List ℕ)) (b : Both) → GapsFit ls (gapsFor d capacity ls b)
 unfolding gapsFor
@@ -123,8 +128,8 @@ gaps-fit d capacity [] b = tt
 gaps-fit d capacity (l ∷ ls) b =
     (record { events = events-fit d b; room = omega arith }, gaps-fit d capacity ls (found.afterLine capacity l b))
 
-pub reached : (capacity : ℕ) (ls : List (List ℕ)) (b : Both) (k p : ℕ) (r : Refusal) → found.found capacity ls b ≡ stop k p r → r ≢ NoReset
-    → r ≢ LongScriptLine
+pub reached : (capacity : ℕ) (ls : List (List ℕ)) (b : Both) (k p : ℕ) (r : Refusal)
+    → found.found capacity ls b ≡ stop k p r → r ≢ NoReset → r ≢ LongScriptLine
     → (d : Side) × ((w : World) → Open w → Roomy ls (gapsFor d capacity ls b) w → At d capacity b (w .core .state)
     → answerOf ls (gapsFor d capacity ls b) w k ≡ Refused r p)
 unfolding found.found answerOf gapsFor
@@ -133,7 +138,8 @@ reached capacity (l ∷ ls) b zero p r e x y =
     let f = line-refuses capacity (gapOf capacity b) l r p (found-here _ _ p r e) x y in (
       f .0,
       λ w o c i.
-          (f .1) (afterEvents (eventsOf (f .0) b) w) (events-open (eventsOf (f .0) b) w o) (at-gap (f .0) capacity b w o i) enough (c .0),
+          let v = afterEvents (eventsOf (f .0) b) w in
+          (f .1) v (events-open (eventsOf (f .0) b) w o) (at-gap (f .0) capacity b w o i) enough (c .0),
     )
 reached capacity (l ∷ ls) b (suc k) p r e x y =
     let q = found-later (lineAnswer capacity l (gapOf capacity b)) (found.found capacity ls (found.afterLine capacity l b)) k p r e in

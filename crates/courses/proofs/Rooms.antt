@@ -52,7 +52,7 @@ use Rattle.clean.specs.Texts.{semicolon, textsOf}
 use Rattle.clean.proofs.Bound.{cleaned-length}
 use Rattle.script.proofs.Parts.{parts-length}
 use Rattle.lockin.specs.Calls as calls
-use Rattle.lockin.specs.Calls.{guarded, wholeLine, lineCall}
+use Rattle.lockin.specs.Calls.{Call, guarded, wholeLine, lineCall}
 use Rattle.demands.proofs.Again.{kept-size}
 use Rattle.demands.proofs.Sane.{SaneParsed, parsed-sane}
 use Rattle.demands.proofs.States.{states-stay}
@@ -76,16 +76,22 @@ module _ (s : State) (a : allowedState s ≡ true) (k : Sized s) where
   value-small e = by (ltb e entries) refl where
     by : (t : Bool) → ltb e entries ≡ t → valueOf (s .settings) e < 2 ^ 32
     by true p =
-        omega (arith, kept-size e (valueOf (s .settings) e) (every-at (λ i. keeps i (valueOf (s .settings) i)) entries (sound s a .values) e (ltb-true e entries p)))
-    by false p = rw (List·getD-eq-default (s .settings .values) 0 {n = e} (rw (k .full) (ltb-false e entries p))) (omega arith)
+        let h = every-at (λ i. keeps i (valueOf (s .settings) i)) entries (sound s a .values) e (ltb-true e entries p) in
+        omega (arith, kept-size e (valueOf (s .settings) e) h)
+    by false p =
+        rw (List·getD-eq-default (s .settings .values) 0 {n = e} (rw (k .full) (ltb-false e entries p))) (omega arith)
 
   external-small : s .moving .external < 2 ^ 32
-  external-small = omega (arith, leb-true (s .moving .external) (hertz 102000) (and-eq-true-iff (leb 10 (s .moving .external)) _ .0 (sound s a .external) .1))
+  external-small =
+      let f = s .moving .external in
+      let p = and-eq-true-iff (leb 10 f) (leb f (hertz 102000)) .0 (sound s a .external) in
+      omega (arith, leb-true f (hertz 102000) (p .1))
 
   now-small : (e : ℕ) → valueNow s e < 2 ^ 32
   unfolding valueNow inForce
   now-small e = by (eqb e freq) (eqb (valueOf (s .settings) fmod) 1) where
-    by : (t u : Bool) → cond t (cond u (valueOf (s .settings) freq) (s .moving .external)) (valueOf (s .settings) e) < 2 ^ 32
+    by : (t u : Bool)
+        → cond t (cond u (valueOf (s .settings) freq) (s .moving .external)) (valueOf (s .settings) e) < 2 ^ 32
     by true true = value-small freq
     by true false = external-small
     by false u = value-small e
@@ -117,24 +123,31 @@ module _ (s : State) (a : allowedState s ≡ true) (k : Sized s) where
         value-length (behind entry) (valueNow s (behind entry)) (now-small (behind entry)),
       ))
   text-short (query.Enable which) waiting =
-      omega (arith, plain-short (enableOf (s .enables) which) (omega (arith, enable-byte (s .enables) (k .enables) which)))
+      let h = enable-byte (s .enables) (k .enables) which in
+      omega (arith, plain-short (enableOf (s .enables) which) (omega arith))
   text-short (query.EnableBit which i) waiting =
-      omega (arith, plain-short (bitOf (enableOf (s .enables) which) i) (omega (arith, bit-lt (enableOf (s .enables) which) i)))
-  text-short (query.Status which) waiting = omega (arith, plain-short (statusOf s waiting which) (status-small waiting which))
+      let h = bit-lt (enableOf (s .enables) which) i in
+      omega (arith, plain-short (bitOf (enableOf (s .enables) which) i) (omega arith))
+  text-short (query.Status which) waiting =
+      omega (arith, plain-short (statusOf s waiting which) (status-small waiting which))
   text-short (query.StatusBit which i) waiting =
-      omega (arith, plain-short (bitOf (statusOf s waiting which) i) (omega (arith, bit-lt (statusOf s waiting which) i)))
+      let h = bit-lt (statusOf s waiting which) i in
+      omega (arith, plain-short (bitOf (statusOf s waiting which) i) (omega arith))
   text-short query.Identity waiting = rw (length-append, length-append, padded-length) (omega arith)
-  text-short query.Points waiting = omega (arith, plain-short (s .moving .storage .held) (omega (arith, held-small)))
+  text-short query.Points waiting =
+      omega (arith, plain-short (s .moving .storage .held) (omega (arith, held-small)))
   text-short (query.Trace form t bin count) waiting = omega arith
 
   ended-short : (q : QueryArgument) (waiting : Bool) → length (endedText q s waiting) ≤ most
   unfolding endedText
   ended-short q waiting = rw (length-append) (omega (arith, text-short q waiting))
 
-  query-short : (q : QueryArgument) (waiting : Bool) (one two : List ℕ) → queryAllowed (s .moving) q ≡ true → length (queryReply q s waiting one two) ≤ most
+  query-short : (q : QueryArgument) (waiting : Bool) (one two : List ℕ) → queryAllowed (s .moving) q ≡ true
+      → length (queryReply q s waiting one two) ≤ most
   unfolding queryReply traceReply queryAllowed holdsOf
   query-short (query.Trace form t bin count) waiting one two h =
-      rw (pointBytes-length form _ _ count) (omega (arith, held-small, leb-true (bin + count) (s .moving .storage .held) h))
+      let fits = leb-true (bin + count) (s .moving .storage .held) h in
+      rw (pointBytes-length form _ _ count) (omega (arith, held-small))
   query-short (query.Value entry) waiting one two h = ended-short (query.Value entry) waiting
   query-short (query.Pair entry) waiting one two h = ended-short (query.Pair entry) waiting
   query-short (query.Enable which) waiting one two h = ended-short (query.Enable which) waiting
@@ -173,20 +186,25 @@ record Fits (e : Effect) : Type 0 where
   short : length (e .out) ≤ most
   sized : Sized (e .state)
 
-command-fits : (room : ℕ) (waiting : Bool) (p : Parsed) (s : State) (one two : List ℕ) → SaneParsed p → allowedState s ≡ true → Sized s → most ≤ room
-    → Fits (commandOf room waiting p s one two)
+command-fits : (room : ℕ) (waiting : Bool) (p : Parsed) (s : State) (one two : List ℕ) → SaneParsed p
+    → allowedState s ≡ true → Sized s → most ≤ room → Fits (commandOf room waiting p s one two)
 unfolding commandOf performed fitsIn drops
 command-fits room waiting Empty s one two c a k h = record { kept = refl; short = omega arith; sized = k }
-command-fits room waiting (Refused r) s one two c a k h = record { kept = small r c; short = omega arith; sized = marked-sized r s k }
+command-fits room waiting (Refused r) s one two c a k h =
+    record { kept = small r c; short = omega arith; sized = marked-sized r s k }
 command-fits room waiting (Taken c) s one two n a k h = by (allowsOf (s .settings) (s .moving) (c .kind)) refl where
   reply : List ℕ
   reply = replyOf (c .kind) s waiting one two
 
+  done : Effect
+  done = doneBy (c .kind) reply s one two
+
   by : (t : Bool) → allowsOf (s .settings) (s .moving) (c .kind) ≡ t
-      → Fits (cond t (cond (leb (length reply) room) (doneBy (c .kind) reply s one two) (refusedBy NoRoom s one two)) (refusedBy NotAllowed s one two))
+      → Fits (cond t (cond (leb (length reply) room) done (refusedBy NoRoom s one two)) (refusedBy NotAllowed s one two))
   by true e =
       let short = reply-short s a k (c .kind) waiting one two e in
-      rw (le-leb (length reply) room (omega arith)) (unfold doneBy in record { kept = refl; short = short; sized = after-sized (c .kind) s k })
+      rw (le-leb (length reply) room (omega arith))
+      (unfold doneBy in record { kept = refl; short = short; sized = after-sized (c .kind) s k })
   by false e = record { kept = unfold isNoRoom in refl; short = omega arith; sized = marked-sized NotAllowed s k }
 
 -- ---- a line
@@ -202,11 +220,14 @@ record Goes (room : ℕ) (t : List ℕ) (l : Line) : Type 0 where
   kept : stepOf room t l .dropped ≡ false
   short : length (stepOf room t l .out) ≤ length (l .out) + most
 
-step-fits : (room : ℕ) (t : List ℕ) (l : Line) → allowedState (l .state) ≡ true → Sized (l .state) → length (l .out) + most ≤ room → Goes room t l
+step-fits : (room : ℕ) (t : List ℕ) (l : Line) → allowedState (l .state) ≡ true → Sized (l .state)
+    → length (l .out) + most ≤ room → Goes room t l
 unfolding stepOf afterOf
 step-fits room t l a k h =
     let left = room - length (l .out) in
-    let c = command-fits left (waits (l .out)) (parsedOf t) (l .state) (l .one) (l .two) (parsed-sane t) a k (omega arith) in
+    let c =
+    command-fits left (waits (l .out)) (parsedOf t) (l .state) (l .one) (l .two) (parsed-sane t) a k (omega arith)
+    in
     record {
       allowed = states-stay .command left (waits (l .out)) t (l .state) (l .one) (l .two) .allowed a;
       sized = c .sized;
@@ -214,15 +235,16 @@ step-fits room t l a k h =
       short = rw (length-append) (omega (arith, c .short));
     }
 
-run-fits : (room : ℕ) (ts : List (List ℕ)) (l : Line) → allowedState (l .state) ≡ true → Sized (l .state) → l .dropped ≡ false
-    → length (l .out) + length ts * most ≤ room → (runAll room ts l .dropped ≡ false) × Sized (runAll room ts l .state)
+run-fits : (room : ℕ) (ts : List (List ℕ)) (l : Line) → allowedState (l .state) ≡ true → Sized (l .state)
+    → l .dropped ≡ false → length (l .out) + length ts * most ≤ room
+    → (runAll room ts l .dropped ≡ false) × Sized (runAll room ts l .state)
 unfolding runAll
 run-fits room [] l a k e h = (e, k)
 run-fits room (t ∷ ts) l a k e h =
     let g = step-fits room t l a k (omega arith) in
     let next = stepOf room t l in
-    cond-rest (next .dropped) next (runAll room ts next) (λ (x : Line). (x .dropped ≡ false) × Sized (x .state)) (g .kept)
-    (run-fits room ts next (g .allowed) (g .sized) (g .kept) (omega (arith, g .short)))
+    cond-rest (next .dropped) next (runAll room ts next) (λ (x : Line). (x .dropped ≡ false) × Sized (x .state))
+    (g .kept) (run-fits room ts next (g .allowed) (g .sized) (g .kept) (omega (arith, g .short)))
 
 -- a line of at most 256 bytes has at most 257 commands: room for that many of the longest replies
 abbrev pub enough : ℕ
@@ -249,7 +271,9 @@ module _ (l : List ℕ) (w : World) (o : Open w) (k : Sized (w .core .state)) wh
   pub line-sized : Sized (afterLine enough l w .core .state)
   unfolding afterLine lineCall guarded wholeLine ran
   line-sized = rw o (by (leb (length l) 256) refl) where
-    by : (t : Bool) → leb (length l) 256 ≡ t
-        → Sized (cond t (calls.ran ran (w .core .queue)) (calls.tooLong (w .core) (w .core .queue) (w .one) (w .two)) .after .state)
+    long : Call
+    long = calls.tooLong (w .core) (w .core .queue) (w .one) (w .two)
+
+    by : (t : Bool) → leb (length l) 256 ≡ t → Sized (cond t (calls.ran ran (w .core .queue)) long .after .state)
     by true e = short-fits (leb-true (length l) 256 e) .1
     by false e = marked-sized LongLine (w .core .state) k

@@ -1,5 +1,5 @@
--- What the length of a reply hangs on beyond the rules of refusal 11: the table's values and no others, registers and enables that are bytes. Commands and
--- the events of the check's two courses keep it.
+-- What the length of a reply depends on, beside the rules of refusal 11: a value for each entry of the table and no
+-- other, registers and enables that are bytes. Commands and the events of the check's two courses keep it.
 use Prim.Native.Nat.{ℕ, _%_, _^_, _≤_, _<_}
 use native.Mathlib.Omega.{arith}
 use mathlib.Core.Bool.{Bool, true, false, cond, _&&_, _||_}
@@ -66,7 +66,8 @@ module _ (r : Registers) (k : RegistersFit r) where
   lia-fits bits h = record { standard = k .standard; lia = or-lt 8 (r .lia) bits (k .lia) h; errors = k .errors }
 
   standard-fits : (bits : ℕ) → Byte bits → RegistersFit (withStandard r bits)
-  standard-fits bits h = record { standard = or-lt 8 (r .standard) bits (k .standard) h; lia = k .lia; errors = k .errors }
+  standard-fits bits h =
+      record { standard = or-lt 8 (r .standard) bits (k .standard) h; lia = k .lia; errors = k .errors }
 
   pub register-byte : (which : Register) → Byte (registerOf r which)
   unfolding registerOf
@@ -86,7 +87,8 @@ module _ (r : Registers) (k : RegistersFit r) where
   unfolding registersAsked clearedOf bitCleared
   asked-fits (query.Status which) = with-register-fits which 0 (omega arith)
   asked-fits (query.StatusBit which i) =
-      with-register-fits which (withoutBit (registerOf r which) i) (without-byte (registerOf r which) i (register-byte which))
+      with-register-fits which (withoutBit (registerOf r which) i)
+      (without-byte (registerOf r which) i (register-byte which))
   asked-fits (query.Value entry) = k
   asked-fits (query.Pair entry) = k
   asked-fits (query.Enable which) = k
@@ -106,14 +108,16 @@ module _ (e : Enables) (k : EnablesFit e) where
   with-enable-fits : (which : Register) (x : ℕ) → Byte x → EnablesFit (withEnableByte e which x)
   unfolding withEnableByte
   with-enable-fits Standard x h = record { standard = h; service = k .service; lia = k .lia; errors = k .errors }
-  with-enable-fits Service x h = record { standard = k .standard; service = without-byte x 6 h; lia = k .lia; errors = k .errors }
+  with-enable-fits Service x h =
+      record { standard = k .standard; service = without-byte x 6 h; lia = k .lia; errors = k .errors }
   with-enable-fits Lia x h = record { standard = k .standard; service = k .service; lia = h; errors = k .errors }
   with-enable-fits Errors x h = record { standard = k .standard; service = k .service; lia = k .lia; errors = h }
 
   set-fits : (a : SetArgument) → EnablesFit (enablesSet a e)
   unfolding enablesSet withEnable withEnableBit
   set-fits (set.Enable which v) = with-enable-fits which (v % 256) (omega arith)
-  set-fits (set.EnableBit which i v) = with-enable-fits which (withBit (enableOf e which) i v) (with-byte (enableOf e which) i v (enable-byte which))
+  set-fits (set.EnableBit which i v) =
+      with-enable-fits which (withBit (enableOf e which) i v) (with-byte (enableOf e which) i v (enable-byte which))
   set-fits (set.Value entry v) = k
   set-fits (set.Pair entry v w) = k
 
@@ -163,10 +167,12 @@ crossed-sized old s k =
       enables = k .enables;
     }
 
-settings-full : (kind : Kind) (x : Settings) → length (x .values) ≡ entries → length (settingsAfter kind x .values) ≡ entries
+settings-full : (kind : Kind) (x : Settings) → length (x .values) ≡ entries
+    → length (settingsAfter kind x .values) ≡ entries
 unfolding settingsAfter setIn withPair restoredBy
 settings-full (Set (set.Value e v)) x h = length-set (x .values) e v ∙ h
-settings-full (Set (set.Pair e v w)) x h = length-set (set (x .values) e v) (behind e) w ∙ (length-set (x .values) e v ∙ h)
+settings-full (Set (set.Pair e v w)) x h =
+    length-set (set (x .values) e v) (behind e) w ∙ (length-set (x .values) e v ∙ h)
 settings-full (Set (set.Enable r v)) x h = h
 settings-full (Set (set.EnableBit r i v)) x h = h
 settings-full (Query q) x h = h
@@ -175,9 +181,15 @@ settings-full (Act a) x h = by (change.isReset a) where
   by true = unfold startSettings table in refl
   by false = h
 
+trigger-fits : (s : State) → RegistersFit (s .registers) → RegistersFit (withLia (s .registers) (triggerOf s .bits))
+unfolding triggerOf
+trigger-fits s k =
+    lia-fits (s .registers) k _ (trigger-byte (s .moving .storage) (s .unit .capacity) (samplingOf (s .settings)))
+
 registers-fit : (kind : Kind) (s : State) → RegistersFit (s .registers)
-    → RegistersFit (registersAfter kind (storageAfter kind (s .settings) (s .moving) (s .unit .capacity) .bits) (s .registers))
-unfolding registersAfter registersBy storageAfter storageBy
+    → let bits = storageAfter kind (s .settings) (s .moving) (s .unit .capacity) .bits in
+    RegistersFit (registersAfter kind bits (s .registers))
+unfolding registersAfter registersBy storageAfter storageBy triggerOf
 registers-fit (Set a) s k = k
 registers-fit (Query q) s k = asked-fits (s .registers) k q
 registers-fit (Act Reset) s k = k
@@ -185,7 +197,7 @@ registers-fit (Act Clear) s k = record { standard = omega arith; lia = omega ari
 registers-fit (Act Start) s k = k
 registers-fit (Act Pause) s k = k
 registers-fit (Act Empty) s k = k
-registers-fit (Act Trigger) s k = lia-fits (s .registers) k _ (trigger-byte (s .moving .storage) (s .unit .capacity) (samplingOf (s .settings)))
+registers-fit (Act Trigger) s k = trigger-fits s k
 
 enables-fit : (kind : Kind) (e : Enables) → EnablesFit e → EnablesFit (enablesAfter kind e)
 unfolding enablesAfter
@@ -212,25 +224,36 @@ after-sized (Act a) s k = changed-sized (Act a) s k
 pub marked-sized : (r : Refusal) (s : State) → Sized s → Sized (markedBy r s)
 unfolding markedBy
 marked-sized r s k =
-    record { full = k .full; registers = standard-fits (s .registers) (k .registers) _ (refusal-byte r); enables = k .enables }
-
--- a trigger, and a measured frequency
-pub trigger-sized : (s : State) (one two : List ℕ) → Sized s → Sized (eventOf event.Trigger s one two .state)
-unfolding eventOf sampledIn sampledBy triggerOf
-trigger-sized s one two k =
     record {
       full = k .full;
-      registers = lia-fits (s .registers) (k .registers) _ (trigger-byte (s .moving .storage) (s .unit .capacity) (samplingOf (s .settings)));
+      registers = standard-fits (s .registers) (k .registers) _ (refusal-byte r);
       enables = k .enables;
     }
 
-pub measured-sized : (f : ℕ) (s : State) (one two : List ℕ) → Sized s → Sized (eventOf (event.Measured f) s one two .state)
+-- a trigger, and a measured frequency
+pub trigger-sized : (s : State) (one two : List ℕ) → Sized s → Sized (eventOf event.Trigger s one two .state)
+unfolding eventOf sampledIn sampledBy
+trigger-sized s one two k =
+    record { full = k .full; registers = trigger-fits s (k .registers); enables = k .enables }
+
+pub measured-sized : (f : ℕ) (s : State) (one two : List ℕ) → Sized s
+    → Sized (eventOf (event.Measured f) s one two .state)
 unfolding eventOf measuredBy
 measured-sized f s one two k = by (eqb (valueOf (s .settings) fmod) 1) (takesFrequency s f) where
-  by : (a b : Bool)
-      → Sized (cond a s (cond b (crossedFrom (detectionNow s) (withExternal f s)) (withRegisters (withLia (s .registers) notTaken) s)))
+  taken : State
+  taken = crossedFrom (detectionNow s) (withExternal f s)
+
+  left : State
+  left = withRegisters (withLia (s .registers) notTaken) s
+
+  by : (a b : Bool) → Sized (cond a s (cond b taken left))
   by true b = k
   by false true =
       crossed-sized (detectionNow s) (withExternal f s)
       (unfold withExternal in record { full = k .full; registers = k .registers; enables = k .enables })
-  by false false = record { full = k .full; registers = lia-fits (s .registers) (k .registers) notTaken (omega arith); enables = k .enables }
+  by false false =
+      record {
+        full = k .full;
+        registers = lia-fits (s .registers) (k .registers) notTaken (omega arith);
+        enables = k .enables;
+      }

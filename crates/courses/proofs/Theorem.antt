@@ -54,14 +54,18 @@ module _ (capacity : ℕ) (lines : List (List ℕ)) (k : Course capacity lines) 
 
 module _ (capacity : ℕ) (fits : capacityFits capacity ≡ true) where
   fresh-at : (d : Side) → At d capacity startBoth (freshWorld capacity .core .state)
-  fresh-at low = rw (fresh-core capacity fits) (unfold freshModule startState in record { same = refl; alike = alike-self _; moving = refl })
-  fresh-at high = rw (fresh-core capacity fits) (unfold freshModule startState in record { same = refl; alike = alike-self _; moving = refl })
+  fresh-at low =
+      rw (fresh-core capacity fits)
+      (unfold freshModule startState in record { same = refl; alike = alike-self _; moving = refl })
+  fresh-at high =
+      rw (fresh-core capacity fits)
+      (unfold freshModule startState in record { same = refl; alike = alike-self _; moving = refl })
 
   fresh-open : Open (freshWorld capacity)
   unfolding freshWorld
   fresh-open =
-      world-open capacity (freshWorld capacity) (stays-allowed .start 0 1 capacity capacity) (fresh-at low .same) (length-replicate capacity 0)
-      (length-replicate capacity 0)
+      world-open capacity (freshWorld capacity) (stays-allowed .start 0 1 capacity capacity) (fresh-at low .same)
+      (length-replicate capacity 0) (length-replicate capacity 0)
 
   fresh-sized : Sized (freshWorld capacity .core .state)
   fresh-sized =
@@ -416,7 +420,8 @@ module _ (capacity : ℕ) (script : List ℕ) where
       (λ i a b. rw b (refused-first capacity (linesOf script) i p r a h x y)))
       (λ h f. let w : BadTraces ≡ r = cc in absurd (z (sym w)))
 
-  seven-case : (n p : ℕ) → (checkOf capacity script ≡ No n p NoReset) ↔ (Startable capacity × NotBegun (linesOf script) n p)
+  seven-case : (n p : ℕ)
+      → (checkOf capacity script ≡ No n p NoReset) ↔ (Startable capacity × NotBegun (linesOf script) n p)
   seven-case n p = (
     (λ e.
         by-capacity (No n p NoReset) (Startable capacity × NotBegun (linesOf script) n p) e
@@ -439,7 +444,8 @@ module _ (capacity : ℕ) (script : List ℕ) where
       let z : 1 + j ≡ suc j = omega arith in
       check-fits capacity script fits ∙ (f ∙ rw (z, a .nowhere) refl)
 
-  eight-case : (n p : ℕ) → (checkOf capacity script ≡ No n p LongScriptLine) ↔ (Startable capacity × LongAt capacity (linesOf script) n p)
+  eight-case : (n p : ℕ)
+      → (checkOf capacity script ≡ No n p LongScriptLine) ↔ (Startable capacity × LongAt capacity (linesOf script) n p)
   eight-case n p = (
     (λ e.
         by-capacity (No n p LongScriptLine) (Startable capacity × LongAt capacity (linesOf script) n p) e
@@ -453,7 +459,9 @@ module _ (capacity : ℕ) (script : List ℕ) where
     (λ a. long-number (start-fits capacity (a .0)) n p (a .1)),
   )
 
-  nine-case : (n p : ℕ) → (checkOf capacity script ≡ No n p BadTraces) ↔ (StartAnswers capacity (outcome.Refused BadTraces) × (n ≡ 0) × (p ≡ 0))
+  nine-case : (n p : ℕ)
+      → (checkOf capacity script ≡ No n p BadTraces)
+      ↔ (StartAnswers capacity (outcome.Refused BadTraces) × (n ≡ 0) × (p ≡ 0))
   nine-case n p = (
     (λ e.
         by-capacity (No n p BadTraces) (StartAnswers capacity (outcome.Refused BadTraces) × (n ≡ 0) × (p ≡ 0)) e

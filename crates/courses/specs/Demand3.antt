@@ -1,5 +1,5 @@
--- Demand 3: what each verdict of the script check says of every course. Document 01, "The script check", lays down when a
--- script begins with *RST, when a course refuses a command, and which command is the first.
+-- Demand 3: what each verdict of the script check says of every course. Document 01, "The script check", lays down when
+-- a script begins with *RST, when a course refuses a command, and which command is the first.
 --
 -- Neither a check that always says no nor one that always says yes meets this: a script of `*RST` alone passes, and an
 -- empty one does not (crates/examples/specs/Scripts.antt). As wrong programs these two are always_no and always_yes of
