@@ -20,7 +20,7 @@ use Rattle.script.specs.Check.{textsAnswer, textsAfter, tooLong}
 use Rattle.courses.specs.Course.{World, lineIn, afterLine, afterEvent, afterEvents, Gap, Gaps, GapsFit, crowded, Roomy, answerOf}
 use Rattle.courses.proofs.Alike.{Alike}
 use Rattle.courses.proofs.Found as found
-use Rattle.courses.proofs.Found.{stop, lineAnswer, not-passed, not-done, found-here, found-later, end-stop}
+use Rattle.courses.proofs.Found.{stop, lineAnswer, not-passed, found-here, found-later, end-stop}
 use Rattle.courses.proofs.Sound.{Open, open-allowed, line-open, event-open, event-is, line-short, events-open}
 use Rattle.courses.proofs.Witness.{Side, low, high, At, at-run, run-refuses, highest, eventsOf, events-fit, measured-at, triggered-at}
 use Rattle.courses.proofs.Sized.{Sized, measured-sized, trigger-sized}

@@ -2,15 +2,15 @@
 use Prim.Native.Nat.{ℕ, _+_, _-_, _*_, _^_, _≤_, _<_}
 use native.Mathlib.Omega.{arith}
 use mathlib.Core.Bool.{Bool, true, false, cond, and-eq-true-iff, false≢true}
-use mathlib.Core.Path.{_≡_, refl, sym, ap, _∙_}
-use mathlib.Core.List.{List, [], _∷_, _++_}
+use mathlib.Core.Path.{_≡_, refl, sym}
+use mathlib.Core.List.{List, [], _∷_}
 use lib.Dec.{leb, ltb, eqb}
 use lib.ListN.{length, length-append, List·getD-eq-default}
 use borrow.Author.Tests.{le-leb, leb-true, ltb-true, ltb-false}
 use Rattle.refusal.specs.Meaning.{meaningOf}
 use Rattle.refusal.specs.declared.Refusal.{Refusal}
 use Rattle.refusal.specs.declared.Refusal.the-variants.{Malformed, OutOfRange, NotAllowed, NoRoom, LongLine, BadEvent, NoReset, LongScriptLine, BadTraces, BadStart, BadState}
-use Rattle.divide.specs.Ascii.{bytes}
+use Rattle.refusal.specs.Answer.{isNoRoom, drops}
 use Rattle.settings.specs.Table.{entries, fmod, freq, send, behind, valueOf}
 use Rattle.settings.specs.Frequency.{hertz, inForce}
 use Rattle.settings.specs.Allowed.{keeps, keepsAll}
@@ -24,10 +24,12 @@ use Rattle.status.specs.declared.Enables.{Enables}
 use Rattle.status.specs.declared.Poll.{Poll}
 use Rattle.status.proofs.Bits.{bit-lt}
 use Rattle.status.proofs.Flags.{flag-le, other-lt}
-use Rattle.text.specs.Text.{padded, signedText}
 use Rattle.text.proofs.Digits.{padded-length}
 use Rattle.name.specs.declared.Register.{Register}
 use Rattle.name.specs.declared.Register.the-variants.{Standard, Service, Lia, Errors}
+use Rattle.clean.specs.Clean.{cleaned}
+use Rattle.clean.specs.Texts.{semicolon, textsOf}
+use Rattle.clean.proofs.Bound.{cleaned-length}
 use Rattle.command.specs.Parsed.{parsedOf}
 use Rattle.command.specs.declared.QueryArgument.{QueryArgument}
 use Rattle.command.specs.declared.QueryArgument.the-variants as query
@@ -45,11 +47,7 @@ use Rattle.reply_text.proofs.Texts.{value-length, plain-short}
 use Rattle.answer.specs.Reply.{endedText, traceReply, queryReply, replyOf}
 use Rattle.event.proofs.Crossed.{sound}
 use Rattle.line.specs.Perform.{Effect, refusedBy, doneBy, performed, commandOf}
-use Rattle.refusal.specs.Answer.{isNoRoom, drops}
 use Rattle.line.specs.Line.{Line, waits, afterOf, stepOf, runAll, startLine, lineOf}
-use Rattle.clean.specs.Clean.{cleaned}
-use Rattle.clean.specs.Texts.{semicolon, textsOf}
-use Rattle.clean.proofs.Bound.{cleaned-length}
 use Rattle.script.proofs.Parts.{parts-length}
 use Rattle.lockin.specs.Calls as calls
 use Rattle.lockin.specs.Calls.{Call, guarded, wholeLine, lineCall}
@@ -76,7 +74,8 @@ module _ (s : State) (a : allowedState s ≡ true) (k : Sized s) where
   value-small e = by (ltb e entries) refl where
     by : (t : Bool) → ltb e entries ≡ t → valueOf (s .settings) e < 2 ^ 32
     by true p =
-        let h = every-at (λ i. keeps i (valueOf (s .settings) i)) entries (sound s a .values) e (ltb-true e entries p) in
+        let l = ltb-true e entries p in
+        let h = every-at (λ i. keeps i (valueOf (s .settings) i)) entries (sound s a .values) e l in
         omega (arith, kept-size e (valueOf (s .settings) e) h)
     by false p =
         rw (List·getD-eq-default (s .settings .values) 0 {n = e} (rw (k .full) (ltb-false e entries p))) (omega arith)
@@ -200,7 +199,8 @@ command-fits room waiting (Taken c) s one two n a k h = by (allowsOf (s .setting
   done = doneBy (c .kind) reply s one two
 
   by : (t : Bool) → allowsOf (s .settings) (s .moving) (c .kind) ≡ t
-      → Fits (cond t (cond (leb (length reply) room) done (refusedBy NoRoom s one two)) (refusedBy NotAllowed s one two))
+      → Fits
+      (cond t (cond (leb (length reply) room) done (refusedBy NoRoom s one two)) (refusedBy NotAllowed s one two))
   by true e =
       let short = reply-short s a k (c .kind) waiting one two e in
       rw (le-leb (length reply) room (omega arith))

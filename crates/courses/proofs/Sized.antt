@@ -25,7 +25,6 @@ use Rattle.status.specs.declared.Registers.{Registers}
 use Rattle.status.specs.declared.Enables.{Enables}
 use Rattle.name.specs.declared.Register.{Register}
 use Rattle.name.specs.declared.Register.the-variants.{Standard, Service, Lia, Errors}
-use Rattle.name.specs.declared.Action.{Action}
 use Rattle.name.specs.declared.Action.the-variants.{Reset, Clear, Start, Pause, Empty, Trigger}
 use Rattle.command.specs.declared.SetArgument.{SetArgument}
 use Rattle.command.specs.declared.SetArgument.the-variants as set

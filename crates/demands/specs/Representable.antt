@@ -8,9 +8,6 @@ use lib.ListN.{length}
 use Rattle.settings.specs.Table.{entries}
 use Rattle.status.specs.declared.Registers.{Registers}
 use Rattle.status.specs.declared.Enables.{Enables}
-use Rattle.storage.specs.declared.Storage.{Storage}
-use Rattle.state.specs.declared.Pair.{Pair}
-use Rattle.state.specs.declared.Unit.{Unit as ModuleUnit}
 use Rattle.state.specs.declared.State.{State}
 use Rattle.event.specs.declared.Event.{Event}
 use Rattle.event.specs.declared.Event.the-variants.{Latest, Tick, Trigger, Measured, Raised}
