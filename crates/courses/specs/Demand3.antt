@@ -93,8 +93,8 @@ pub record FirstRefused (capacity : ℕ) (lines : List (List ℕ)) (n place : �
   pub before : PassedBefore capacity lines n
   pub earlier : (k : Course capacity lines) (q : ℕ) (s : Refusal) → answers k n ≡ answer.Refused s q → place ≤ q
 
--- 7: the first command that is not empty is another than *RST, and no line up to it is over 256 bytes; or no command of
--- the script is not empty, which is told at line 1, place 1
+-- 7: the first command that is not empty is another than *RST, and no line up to it is over 256 bytes; or every command
+-- of the script is empty, which is told at line 1, place 1
 pub data NotBegun (lines : List (List ℕ)) : ℕ → ℕ → Type 0 where
   other : (n place : ℕ) (c : Parsed) → leadOf lines ≡ first n place c → isReset c ≡ false
       → ((m : ℕ) → m ≤ n → Short lines m) → NotBegun lines n place

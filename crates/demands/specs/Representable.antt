@@ -42,7 +42,7 @@ pub record EnablesFit (e : Enables) : Type 0 where
   pub lia : Byte (e .lia)
   pub errors : Byte (e .errors)
 
--- a value for each entry of the settings table; the external frequency; storage; the latest pair; what is fixed at
+-- a value for each entry of the settings table, the external frequency, storage, the latest pair and what is fixed at
 -- start
 pub record StateFits (s : State) : Type 0 where
   pub full : length (s .settings .values) ≡ entries
