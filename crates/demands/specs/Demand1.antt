@@ -1,5 +1,5 @@
--- Demand 1: what is refused changes nothing, save the error bit laid down for it. This holds of each command of a line, of
--- lines, bytes, events, starts and polls, so no caller has to test anything beforehand. The statement is
+-- Demand 1: what is refused changes nothing, save the error bit laid down for it. This holds of each command of a line,
+-- and of lines, bytes, events, starts and polls, so no caller has to test anything beforehand. The statement is
 -- RefusedChangesNothing, at the end. Document 01, "Refusal numbers" and "Lines and commands".
 use Prim.Native.Nat.{ℕ, _+_, _-_, _≤_}
 use mathlib.Core.Bool.{Bool, true, false, cond, not}
@@ -86,8 +86,8 @@ pub record RefusedStep (refusal : Refusal) (room : ℕ) (text : List ℕ) (l : L
   pub next : (more : List (List ℕ)) →
       runAll room (text ∷ more) l ≡ cond (isNoRoom refusal) (stepOf room text l) (runAll room more (stepOf room text l))
 
--- an accepted command of a line: the state and the traces that it leaves are the line's, its reply comes after the bytes
--- before it, and the commands after it have their turn from there
+-- an accepted command of a line: the state and the traces that it leaves are the line's, its reply comes after the
+-- bytes before it, and the commands after it have their turn from there
 pub record AcceptedStep (room : ℕ) (text : List ℕ) (l : Line) : Type 0 where
   pub told : effectIn room text l .outcome ≡ Done
   pub state : stepOf room text l .state ≡ effectIn room text l .state
@@ -135,9 +135,9 @@ pub record FirstRefused (refusal : Refusal) (place room : ℕ) (texts : List (Li
 
 -- ---- a call that runs a line
 
--- the call c runs the commands of these bytes on the module m, and the queue is q after it: its module, traces, reply bytes
--- and answer are those at the end of the line. It answers 0 only where each command is accepted, and else the first
--- refused one's refusal and place.
+-- the call c runs the commands of these bytes on the module m, and the queue is q after it: its module, traces, reply
+-- bytes and answer are those at the end of the line. It answers 0 only where each command is accepted, and else the
+-- first refused one's refusal and place.
 pub record RunsLine (room : ℕ) (bytes : List ℕ) (m : Module) (q : Queue) (one two : List ℕ) (c : Call) : Type 0 where
   pub end : Line
   pub commands : Commands room (startLine (m .state) one two) (textsOf bytes) end (c .told .length)
@@ -197,8 +197,8 @@ pub data RefusedCall (m : Module) (q : Queue) (one two : List ℕ) (c : Call) : 
   tracesRefused : Untouched m one two c → RefusedCall m q one two c BadTraces
   lineTooLong : OnlyMarked m q one two c → RefusedCall m q one two c LongLine
 
--- the queue after byte 257 of a line: empty, and bytes are dropped from here on, save where that byte's end mark ends the
--- line
+-- the queue after byte 257 of a line: empty, and bytes are dropped from here on, save where that byte's end mark ends
+-- the line
 abbrev pub emptiedAt : Queue → Bool → Queue
 emptiedAt q marked = droppingIs (not marked) (emptiedOf q)
 
@@ -217,8 +217,8 @@ pub record RefusedEvent (refusal : Refusal) (m : Module) (one two : List ℕ) (c
   pub first : c .one ≡ one
   pub second : c .two ≡ two
 
--- the refusals of a start: 10 where the serial number or the port is none that there is, else 9 where the traces' lengths
--- are none that they may have
+-- the refusals of a start: 10 where the serial number or the port is none that there is, else 9 where the traces have
+-- lengths that they may not have
 pub data OfStart (serial port first second : ℕ) : Refusal → Type 0 where
   unitUnknown : unitKnown serial port ≡ false → OfStart serial port first second BadStart
   tracesUnfit : unitKnown serial port ≡ true → tracesFit first second ≡ false →
@@ -229,8 +229,8 @@ pub record RefusedStart (serial port first second : ℕ) (refusal : Refusal) (s 
   pub told : OfStart serial port first second refusal
   pub after : s .after ≡ freshModule (record { serial = 0; port = 1; capacity = 1 })
 
--- a refused poll: 11, where the module is none that may be; the status byte is told as 0. A poll gives no module back, so
--- it changes none.
+-- a refused poll: 11, where the module is none that may be; the status byte is told as 0. A poll gives no module back,
+-- so it changes none.
 pub record RefusedPoll (refusal : Refusal) (m : Module) (p : Polled) : Type 0 where
   pub told : refusal ≡ BadState
   pub outside : allowedModule m ≡ false
@@ -245,8 +245,8 @@ pub record RefusedChangesNothing : Type 0 where
       RefusedCommand refusal s one two (commandOf room waiting (parsedOf text) s one two)
   pub step : (room : ℕ) (text : List ℕ) (l : Line) (refusal : Refusal) →
       effectIn room text l .outcome ≡ Refused refusal → RefusedStep refusal room text l
-  -- a line handed over whole, which uses no queue: refused before any command; run where 11, 9 and 5 do not refuse it; and
-  -- where it answers a place other than 0 it was run
+  -- a line handed over whole, which uses no queue: refused before any command; run where 11, 9 and 5 do not refuse it;
+  -- and where it answers a place other than 0 it was run
   pub line : (room : ℕ) (bytes : List ℕ) (m : Module) (one two : List ℕ) (refusal : Refusal) →
       lineCall room bytes m one two .told .answer ≡ answer.Refused refusal 0 →
       RefusedCall m (m .queue) one two (lineCall room bytes m one two) refusal
@@ -256,8 +256,8 @@ pub record RefusedChangesNothing : Type 0 where
   pub line-placed : (room : ℕ) (bytes : List ℕ) (m : Module) (one two : List ℕ) (refusal : Refusal) (p : ℕ) →
       lineCall room bytes m one two .told .answer ≡ answer.Refused refusal (p + 1) →
       RunsLine room bytes m (m .queue) one two (lineCall room bytes m one two)
-  -- a byte: refused before any command; the end of a line, which runs; no end of one; and where it answers a place other
-  -- than 0 it ended a line, which ran
+  -- a byte: refused before any command; the end of a line, which runs; no end of one; and where it answers a place
+  -- other than 0 it ended a line, which ran
   pub byte : (room b : ℕ) (mark : Bool) (m : Module) (one two : List ℕ) (refusal : Refusal) →
       byteCall room b mark m one two .told .answer ≡ answer.Refused refusal 0 →
       RefusedCall m (emptiedAt (m .queue) (isMarked (m .state .unit .port) mark)) one two
