@@ -1,69 +1,180 @@
 -- Demand 2: a setting's reply, sent back, sets the same value. Assumes nothing.
 use Prim.Native.Nat.{ℕ, _+_, _-_, _*_, _<_, _≤_}
-use mathlib.Core.Path.{_≡_, sym, ap, ap₂, _∙_}
-use mathlib.Core.Bool.{Bool}
+use mathlib.Core.Path.{_≡_, refl, sym, ap, ap₂, _∙_}
+use mathlib.Core.Bool.{Bool, true, false, cond, true≢false}
 use mathlib.Core.List.{List, [], _∷_, _++_}
 use native.Mathlib.Omega.{arith}
+use lib.Dec.{leb}
+use lib.ListN.{length, length-append}
+use borrow.Author.Tests.{le-leb}
+use Rattle.number.proofs.Exact.{and-first}
 use Rattle.name.specs.Names.{meaningOf}
-use Rattle.name.specs.declared.Meaning.the-variants.{Setting, Channel, ChannelPair}
+use Rattle.name.specs.declared.Register.{Register}
+use Rattle.name.specs.declared.Meaning.the-variants.{Setting, Channel, ChannelPair, Enable}
 use Rattle.settings.specs.Table.{entries, fmod, freq, behind, valueOf}
+use Rattle.status.specs.Status.{enableOf}
+use Rattle.refusal.specs.declared.Refusal.the-variants.{NotAllowed}
+use Rattle.refusal.specs.declared.Outcome.the-variants.{Done}
+use Rattle.refusal.specs.Answer.{firstOf, isNoRoom, drops}
 use Rattle.command.specs.Arguments.{comma}
+use Rattle.command.specs.declared.SetArgument.{SetArgument}
 use Rattle.command.specs.declared.SetArgument.the-variants as set
+use Rattle.command.specs.declared.QueryArgument.{QueryArgument}
 use Rattle.command.specs.declared.QueryArgument.the-variants as query
+use Rattle.command.specs.declared.Kind.the-variants.{Set, Query}
+use Rattle.storage.specs.Storage.{isReset}
+use Rattle.state.specs.Allowed.{allowedState}
+use Rattle.state.specs.Storing.{storedIn}
 use Rattle.state.specs.declared.State.{State}
-use Rattle.reply_text.specs.ReplyText.{valueText, pairText, textOf}
+use Rattle.allow.specs.Allows.{setAllowed, queryAllowed, allowsOf}
+use Rattle.change.specs.Change.{registersAsked, settingsAfter, storageAfter, externalAfter, movingAfter, registersAfter}
+use Rattle.change.specs.Change.{enablesAfter, changedBy, stateAfter}
+use Rattle.reply.specs.Reply.{fitsIn}
+use Rattle.answer.specs.Reply.{endedText, queryReply, replyOf}
+use Rattle.reply_text.specs.ReplyText.{valueText, pairText, textOf, endOf}
+use Rattle.line.specs.Perform.{refusedBy, doneBy, performed}
+use Rattle.line.specs.Line.{startLine, afterOf}
+use Rattle.module.specs.Module.{allowedModule, guardOf}
+use Rattle.module.specs.declared.Module.{Module}
+use Rattle.lockin.specs.Calls.{ran, lineCall}
+use Rattle.demands.specs.Representable.{StateFits}
 use Rattle.demands.specs.Written.{written}
-use Rattle.demands.specs.Demand2.{plainly, channelled, alone, channel, pair, Allowed, Internal, SentBack, Demand2}
-use Rattle.demands.proofs.Meanings.{name-of-one, name-of-channel, name-of-pair}
+use Rattle.demands.specs.Demand2 as claim
+use Rattle.demands.specs.Demand2.{Address, atEntry, atEnable, plainly, channelled, alone, channel, pair, enable}
+use Rattle.demands.specs.Demand2.{valuesAt, replyTo, Ready, answered, CanRefuse, SentBack, taken, refused}
+use Rattle.demands.specs.Demand2.{Internal, Settable, RoundTrip, Demand2}
+use Rattle.demands.proofs.Meanings.{name-of-one, name-of-channel, name-of-pair, name-of-enable}
+use Rattle.demands.proofs.Says.{Says, said-call}
 use Rattle.demands.proofs.Parsing.{one-asked, one-sent, channel-asked, channel-sent, pair-asked, pair-sent}
+use Rattle.demands.proofs.Parsing.{enable-asked, enable-sent}
 use Rattle.demands.proofs.Kept.{kept-value, now-kept, behind-is, value-after, pair-first, pair-second}
+use Rattle.demands.proofs.Same.{set-refused, value-back, value-same, pair-same, enable-byte, enable-same}
+use Rattle.demands.proofs.Same.{enable-after}
+use Rattle.demands.proofs.StaysAllowed.{passes}
 
--- a state, and what its queries reply
-module _ (s : State) (allowed : Allowed s) (waiting : Bool) where
+-- ---- queries that reply text and change nothing
+
+data Quiet : QueryArgument → Type 0 where
+  asValue : (entry : ℕ) → Quiet (query.Value entry)
+  asPair : (entry : ℕ) → Quiet (query.Pair entry)
+  asEnable : (which : Register) → Quiet (query.Enable which)
+
+module _ (room : ℕ) (s : State) (one two : List ℕ) where
+  quiet-query : (q : QueryArgument) → Quiet q → length (endedText q s false) ≤ room →
+      performed room false (Query q) s one two
+      ≡ record { state = s; one = one; two = two; out = endedText q s false; outcome = Done }
+  unfolding performed allowsOf queryAllowed replyOf queryReply fitsIn doneBy stateAfter changedBy
+      settingsAfter storageAfter externalAfter movingAfter registersAfter registersAsked enablesAfter storedIn
+  quiet-query _ (asValue entry) h = rw (le-leb (length (endedText (query.Value entry) s false)) room h) refl
+  quiet-query _ (asPair entry) h = rw (le-leb (length (endedText (query.Pair entry) s false)) room h) refl
+  quiet-query _ (asEnable which) h = rw (le-leb (length (endedText (query.Enable which) s false)) room h) refl
+
+  -- a set, by whether the state allows it
+  set-performed : (a : SetArgument) → performed room false (Set a) s one two
+      ≡ cond (setAllowed (s .settings) (s .moving) a)
+      (record { state = stateAfter (Set a) s; one = one; two = two; out = []; outcome = Done })
+      (refusedBy NotAllowed s one two)
+  unfolding performed allowsOf replyOf fitsIn doneBy storageAfter storedIn
+  set-performed a = rw (le-leb 0 room (omega arith)) refl
+
+-- ---- one setting in one state
+
+-- how the query and the set of a setting are read, what the query replies, and what the set does
+record Trip (a : Address) (s : State) : Type 0 where
+  query : QueryArgument
+  quiet : Quiet query
+  asked : Says (a .query) (Query query)
+  text : textOf query s false ≡ replyTo a s
+  set : SetArgument
+  sent : Says (a .set (replyTo a s)) (Set set)
+  same : (t : State) → StateFits t → valuesAt (stateAfter (Set set) t) (a .holds) ≡ valuesAt s (a .holds)
+  refuses : (t : State) → setAllowed (t .settings) (t .moving) set ≡ false → CanRefuse (a .holds)
+  back : Settable a s → setAllowed (s .settings) (s .moving) set ≡ true
+  still : stateAfter (Set set) s ≡ s
+
+module _ (s : State) (ok : allowedState s ≡ true) (fits : StateFits s) where
   abbrev kept : ℕ → ℕ
   kept entry = valueOf (s .settings) entry
 
-  one-text : (entry : ℕ) → (entry ≡ freq → valueOf (s .settings) fmod ≡ 1) → textOf (query.Value entry) s waiting ≡ written entry (kept entry)
+  one-text : (entry : ℕ) → (entry ≡ freq → valueOf (s .settings) fmod ≡ 1) →
+      textOf (query.Value entry) s false ≡ written entry (kept entry)
   unfolding textOf valueText
   one-text entry f = rw (now-kept s entry f)
 
   pair-text : (entry : ℕ) → freq < entry → entry < entries →
-      textOf (query.Pair entry) s waiting ≡ written entry (kept entry) ++ comma ∷ written (entry + 1) (kept (entry + 1))
+      textOf (query.Pair entry) s false
+      ≡ written entry (kept entry) ++ comma ∷ written (behind entry) (kept (behind entry))
   unfolding textOf valueText pairText
   pair-text entry l h =
-      rw (behind-is entry h, now-kept s entry (λ e. absurd (omega arith)), now-kept s (entry + 1) (λ e. absurd (omega arith)))
+      let b = behind-is entry h in
+      rw (now-kept s entry (λ e. absurd (omega arith)), now-kept s (behind entry) (λ e. absurd (omega arith)))
 
-  back-alone : (name : List ℕ) (entry : ℕ) → meaningOf name ≡ Setting entry → Internal (plainly name entry) s → SentBack (plainly name entry) s waiting
+  enable-text : (which : Register) → textOf (query.Enable which) s false ≡ claim.textAt s (atEnable which)
+  unfolding textOf
+  enable-text which = refl
+
+  back-alone : (name : List ℕ) (entry : ℕ) → meaningOf name ≡ Setting entry →
+      Internal (plainly name (atEntry entry)) s →
+      Trip (plainly name (atEntry entry)) s
   back-alone name entry e internal =
       let n = name-of-one name entry e in
+      let own : entry ≡ freq → valueOf (s .settings) fmod ≡ 1 = λ z. internal (ap (λ x. atEntry x ∷ []) z) in
       record {
         query = query.Value entry;
+        quiet = asValue entry;
         asked = one-asked name (n .0) entry e;
+        text = one-text entry own;
         set = set.Value entry (kept entry);
-        sent =
-            rw (one-text entry (λ z. internal (ap (λ x. x ∷ []) z)))
-            (one-sent name (n .0) entry e (kept entry) (kept-value s (allowed .allowed) entry (n .1)));
-        same = λ t ok h. ap (λ x. x ∷ []) (value-after t (ok .full) entry (kept entry) (n .1));
+        sent = one-sent name (n .0) entry e (kept entry) (kept-value s ok entry (n .1));
+        same = λ t f. ap (λ x. x ∷ []) (value-after t (f .full) entry (kept entry) (n .1));
+        refuses = λ t p. set-refused (t .settings) (t .moving) entry (kept entry) p;
+        back = λ settable. value-back s ok entry own (λ z. settable (ap (λ x. atEntry x ∷ []) z));
+        still = value-same s entry;
+      }
+
+  back-enable : (name : List ℕ) (which : Register) → meaningOf name ≡ Enable which →
+      Trip (plainly name (atEnable which)) s
+  unfolding setAllowed
+  back-enable name which e =
+      let n = name-of-enable name which e in
+      let v = enableOf (s .enables) which in
+      record {
+        query = query.Enable which;
+        quiet = asEnable which;
+        asked = enable-asked name n which e;
+        text = enable-text which;
+        set = set.Enable which v;
+        sent = enable-sent name n which e v (enable-byte (s .enables) (fits .enables) which);
+        same = λ t f. ap (λ x. x ∷ []) (enable-after s ok (fits .enables) t which);
+        refuses = λ t p. absurd (true≢false p);
+        back = λ settable. refl;
+        still = enable-same s ok (fits .enables) which;
       }
 
   module _ (name : List ℕ) (base channels i : ℕ) (some : 1 ≤ i) (most : i ≤ channels) where
-    back-channel : meaningOf name ≡ Channel base channels → SentBack (channelled name i ((base + (i - 1)) ∷ [])) s waiting
+    back-channel : meaningOf name ≡ Channel base channels → Trip (channelled name i (atEntry (base + (i - 1)) ∷ [])) s
     back-channel e =
         let n = name-of-channel name base channels i some most e in
         let at = base + (i - 1) in
         let past = n .2 .past in
+        let own : at ≡ freq → valueOf (s .settings) fmod ≡ 1 = λ z. absurd (omega arith) in
         record {
           query = query.Value at;
+          quiet = asValue at;
           asked = channel-asked name (n .0) base channels i some most (n .1) e;
+          text = one-text at own;
           set = set.Value at (kept at);
-          sent =
-              rw (one-text at (λ z. absurd (omega arith)))
-              (channel-sent name (n .0) base channels i some most (n .1) e (kept at) (n .2) (kept-value s (allowed .allowed) at (n .2 .inside)));
-          same = λ t ok h. ap (λ x. x ∷ []) (value-after t (ok .full) at (kept at) (n .2 .inside));
+          sent = channel-sent name (n .0) base channels i some most (n .1) e (kept at) (n .2)
+              (kept-value s ok at (n .2 .inside));
+          same = λ t f. ap (λ x. x ∷ []) (value-after t (f .full) at (kept at) (n .2 .inside));
+          refuses = λ t p. set-refused (t .settings) (t .moving) at (kept at) p;
+          back = λ settable. value-back s ok at own (λ z. settable (ap (λ x. atEntry x ∷ []) z));
+          still = value-same s at;
         }
 
     back-pair : meaningOf name ≡ ChannelPair base channels →
-        SentBack (channelled name i ((base + 2 * (i - 1)) ∷ behind (base + 2 * (i - 1)) ∷ [])) s waiting
+        Trip (channelled name i (atEntry (base + 2 * (i - 1)) ∷ atEntry (behind (base + 2 * (i - 1))) ∷ [])) s
+    unfolding setAllowed
     back-pair e =
         let n = name-of-pair name base channels i some most e in
         let at = base + 2 * (i - 1) in
@@ -72,18 +183,89 @@ module _ (s : State) (allowed : Allowed s) (waiting : Bool) where
         let b = behind-is at (n .2 .inside) in
         record {
           query = query.Pair at;
+          quiet = asPair at;
           asked = pair-asked name (n .0) base channels i some most (n .1) e;
-          set = set.Pair at (kept at) (kept (at + 1));
+          text = pair-text at (omega arith) (n .2 .inside);
+          set = set.Pair at (kept at) (kept (behind at));
           sent =
-              rw (pair-text at (omega arith) (n .2 .inside))
+              rw b
               (pair-sent name (n .0) base channels i some most (n .1) e (kept at) (kept (at + 1)) (n .2) (n .3)
-              (kept-value s (allowed .allowed) at (n .2 .inside)) (kept-value s (allowed .allowed) (at + 1) inside));
-          same = λ t ok h.
-              ap₂ (λ x y. x ∷ y ∷ []) (pair-first t (ok .full) at (kept at) (kept (at + 1)) past inside)
-              (pair-second t (ok .full) at (kept at) (kept (at + 1)) past inside ∙ ap kept (sym b));
+              (kept-value s ok at (n .2 .inside)) (kept-value s ok (at + 1) inside));
+          same = λ t f.
+              ap₂ (λ x y. x ∷ y ∷ []) (pair-first t (f .full) at (kept at) (kept (behind at)) past inside)
+              (pair-second t (f .full) at (kept at) (kept (behind at)) past inside);
+          refuses = λ t p. absurd (true≢false p);
+          back = λ settable. refl;
+          still = pair-same s at;
         }
 
+-- ---- the same over the calls
+
+module _ (a : Address) (m : Module) (one two : List ℕ) (ready : Ready m one two) (trip : Trip a (m .state)) where
+  reply-length : length (endedText (trip .query) (m .state) false) ≡ length (replyTo a (m .state)) + 1
+  unfolding endedText
+  reply-length = rw (trip .text) (length-append (replyTo a (m .state)) (endOf (m .state .unit .port) ∷ []))
+
+  asked-call : (room : ℕ) → length (replyTo a (m .state)) + 1 ≤ room →
+      lineCall room (a .query) m one two
+      ≡ answered (replyTo a (m .state) ++ (endOf (m .state .unit .port) ∷ [])) m one two
+  asked-call room h =
+      said-call (a .query) (Query (trip .query)) (trip .asked) room m one two (ready .passes)
+      ∙ rw (quiet-query room (m .state) one two (trip .query) (trip .quiet) (omega (arith, reply-length)))
+      (unfold afterOf firstOf drops endedText in rw (trip .text) refl)
+
+  sent-call : (room : ℕ) (t : Module) (first second : List ℕ) → Ready t first second →
+      SentBack (a .holds) (valuesAt (m .state) (a .holds)) t first second
+      (lineCall room (a .set (replyTo a (m .state))) t first second)
+  sent-call room t first second other =
+      rw (
+        said-call (a .set (replyTo a (m .state))) (Set (trip .set)) (trip .sent) room t first second (other .passes),
+        set-performed room (t .state) first second (trip .set),
+      )
+      (by (setAllowed (t .state .settings) (t .state .moving) (trip .set)) refl)
+    where
+      by : (d : Bool) → setAllowed (t .state .settings) (t .state .moving) (trip .set) ≡ d →
+          SentBack (a .holds) (valuesAt (m .state) (a .holds)) t first second
+          (ran (afterOf (startLine (t .state) first second)
+          (cond d
+          (record {
+            state = stateAfter (Set (trip .set))
+                (t .state);
+            one = first;
+            two = second;
+            out = [];
+            outcome = Done;
+          })
+          (refusedBy NotAllowed (t .state) first second))) (t .queue))
+      by true e = unfold afterOf firstOf drops in taken _ refl (trip .same (t .state) (other .fits .state))
+      by false e = unfold afterOf firstOf drops isNoRoom in refused (trip .refuses (t .state) e)
+
+  back-call : Settable a (m .state) → (room : ℕ) →
+      lineCall room (a .set (replyTo a (m .state))) m one two ≡ answered [] m one two
+  back-call settable room =
+      said-call (a .set (replyTo a (m .state))) (Set (trip .set)) (trip .sent) room m one two (ready .passes)
+      ∙ rw (set-performed room (m .state) one two (trip .set), trip .back settable, trip .still)
+      (unfold afterOf firstOf drops in refl)
+
+  round-trip : RoundTrip a m one two
+  round-trip = record { asked = asked-call; sent = sent-call; back = back-call }
+
+ready-allowed : (m : Module) (one two : List ℕ) → Ready m one two → allowedState (m .state) ≡ true
+unfolding allowedModule
+ready-allowed m one two r =
+    and-first (allowedState (m .state)) _ (passes m (length one) (length two) (r .passes) .allowed)
+
 pub demand2 : Demand2
-demand2 _ (alone name entry e) s ok internal waiting = back-alone s ok waiting name entry e internal
-demand2 _ (channel name base channels i e some most) s ok internal waiting = back-channel s ok waiting name base channels i some most e
-demand2 _ (pair name base channels i e some most) s ok internal waiting = back-pair s ok waiting name base channels i some most e
+demand2 a setting m one two ready internal =
+    let ok = ready-allowed m one two ready in
+    let fits = ready .fits .state in
+    round-trip a m one two ready (by a setting internal ok fits)
+  where
+    by : (a : Address) → claim.IsSetting a → Internal a (m .state) → allowedState (m .state) ≡ true →
+        StateFits (m .state) → Trip a (m .state)
+    by _ (alone name entry e) internal ok fits = back-alone (m .state) ok fits name entry e internal
+    by _ (channel name base channels i e some most) internal ok fits =
+        back-channel (m .state) ok fits name base channels i some most e
+    by _ (pair name base channels i e some most) internal ok fits =
+        back-pair (m .state) ok fits name base channels i some most e
+    by _ (enable name which e) internal ok fits = back-enable (m .state) ok fits name which e

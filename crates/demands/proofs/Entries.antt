@@ -1,6 +1,6 @@
 -- Every entry of the table belongs to a setting that a name stands for: one test that computes. Assumes nothing.
 use Prim.Native.Nat.{ℕ, _+_, _-_, _*_, _/_, _<_, _≤_}
-use mathlib.Core.Path.{_≡_, refl, sym, _∙_}
+use mathlib.Core.Path.{_≡_, refl, sym, ap, _∙_}
 use mathlib.Core.Bool.{Bool, true, false, true≢false, _&&_, _||_}
 use mathlib.Core.List.{List, [], _∷_, List·Memᴰ, List·Memᴰ·head, List·Memᴰ·tail}
 use native.Mathlib.Omega.{arith}
@@ -13,7 +13,7 @@ use Rattle.name.specs.declared.Meaning.the-variants.{Setting, Channel, ChannelP
 use Rattle.settings.specs.Table.{entries, behind}
 use Rattle.settings.specs.Allowed.{every}
 use Rattle.settings.proofs.Every.{every-at}
-use Rattle.demands.specs.Demand2.{Address, plainly, channelled, IsSetting, alone, channel, pair, EveryEntry}
+use Rattle.demands.specs.Demand2.{Place, atEntry, Address, plainly, channelled, IsSetting, alone, channel, pair, EveryEntry}
 use Rattle.demands.proofs.Kept.{behind-is}
 
 -- a meaning's entries, over all channels
@@ -59,32 +59,33 @@ is-within base end entry h =
 
 module _ (entry : ℕ) (inside : entry < entries) (name : List ℕ) where
   Found : Type 0
-  Found = (a : Address) × IsSetting a × List·Memᴰ entry (a .holds)
+  Found = (a : Address) × IsSetting a × List·Memᴰ (atEntry entry) (a .holds)
 
   found-pair : (base channels : ℕ) → meaningOf name ≡ ChannelPair base channels → Within base (base + 2 * channels) entry → Found
   unfolding Found
   found-pair base channels e w =
       let k = (entry - base) / 2 in
       let at = base + 2 * (k + 1 - 1) in
-      (channelled name (k + 1) (at ∷ behind at ∷ []), pair name base channels (k + 1) e (omega arith) (omega arith), by (eqb entry at) refl)
+      (channelled name (k + 1) (atEntry at ∷ atEntry (behind at) ∷ []), pair name base channels (k + 1) e (omega arith) (omega arith), by (eqb entry at) refl)
     where
       by : (t : Bool) → eqb entry (base + 2 * ((entry - base) / 2 + 1 - 1)) ≡ t →
-          List·Memᴰ entry ((base + 2 * ((entry - base) / 2 + 1 - 1)) ∷ behind (base + 2 * ((entry - base) / 2 + 1 - 1)) ∷ [])
-      by true z = List·Memᴰ·head (eqb-true entry _ z)
+          List·Memᴰ (atEntry entry)
+          (atEntry (base + 2 * ((entry - base) / 2 + 1 - 1)) ∷ atEntry (behind (base + 2 * ((entry - base) / 2 + 1 - 1))) ∷ [])
+      by true z = List·Memᴰ·head (ap atEntry (eqb-true entry _ z))
       by false z =
           let at = base + 2 * ((entry - base) / 2 + 1 - 1) in
           let other = eqb-false entry at z in
           let next : entry ≡ at + 1 = omega arith in
-          List·Memᴰ·tail (List·Memᴰ·head (next ∙ sym (behind-is at (omega arith))))
+          List·Memᴰ·tail (List·Memᴰ·head (ap atEntry (next ∙ sym (behind-is at (omega arith)))))
 
   found-in : (m : Meaning) → meaningOf name ≡ m → covers entry m ≡ true → Found
   unfolding Found
-  found-in (Setting at) e h = (plainly name at, alone name at e, List·Memᴰ·head (eqb-true entry at h))
+  found-in (Setting at) e h = (plainly name (atEntry at), alone name at e, List·Memᴰ·head (ap atEntry (eqb-true entry at h)))
   found-in (Channel base channels) e h =
       let w = is-within base (base + channels) entry h in
       let i = entry - base + 1 in
       let here : entry ≡ base + (i - 1) = omega arith in
-      (channelled name i ((base + (i - 1)) ∷ []), channel name base channels i e (omega arith) (omega arith), List·Memᴰ·head here)
+      (channelled name i (atEntry (base + (i - 1)) ∷ []), channel name base channels i e (omega arith) (omega arith), List·Memᴰ·head (ap atEntry here))
   found-in (ChannelPair base channels) e h = found-pair base channels e (is-within base (base + 2 * channels) entry h)
   found-in (Enable r) e h = absurd (true≢false (sym h))
   found-in (Status r) e h = absurd (true≢false (sym h))

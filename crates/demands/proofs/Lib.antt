@@ -6,11 +6,13 @@ pub mod States
 pub mod StaysAllowed
 pub mod InTurn
 pub mod Demand1
+pub mod Says
 pub mod Again
 pub mod Bytes
 pub mod Meanings
-pub mod Parsing
 pub mod Kept
-pub mod Entries
-pub mod Demand2
 pub mod Lines
+pub mod Parsing
+pub mod Entries
+pub mod Same
+pub mod Demand2

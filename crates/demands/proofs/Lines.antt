@@ -1,17 +1,223 @@
--- A line that says one command performs it and nothing else. Assumes nothing.
-use mathlib.Core.Bool.{Bool, true, false, cond}
-use mathlib.Core.Path.{_≡_, refl}
-use native.Mathlib.Nat.{sub-zero}
-use Rattle.line.specs.Perform.{performed, commandOf}
-use Rattle.line.specs.Line.{Line, startLine, afterOf, stepOf, runAll, lineOf}
-use Rattle.demands.specs.Lines.{SaidLine}
+-- Lines of several commands. Assumes nothing.
+use Prim.Native.Nat.{ℕ, _+_, _-_, _≤_}
+use native.Mathlib.Omega.{arith}
+use mathlib.Core.Bool.{Bool, true, false, cond, false≢true}
+use mathlib.Core.Path.{_≡_, refl, sym, ap, _∙_}
+use mathlib.Core.List.{List, [], _∷_, _++_}
+use lib.Dec.{eqb}
+use borrow.Author.Tests.{eq-eqb}
+use lib.ListN.{length, length-append}
+use Rattle.divide.specs.Divide.{onHead, parts}
+use Rattle.clean.specs.Clean.{isDropped, capital, cleaned}
+use Rattle.clean.specs.Texts.{semicolon, textsOf}
+use Rattle.refusal.specs.declared.Refusal.{Refusal}
+use Rattle.refusal.specs.declared.Refusal.the-variants.{NoRoom}
+use Rattle.refusal.specs.declared.Outcome.{Outcome}
+use Rattle.refusal.specs.declared.Outcome.the-variants as outcome
+use Rattle.refusal.specs.declared.Outcome.the-variants.{Done}
+use Rattle.refusal.specs.declared.Answer.{Answer}
+use Rattle.refusal.specs.declared.Answer.the-variants.{Passed, Refused}
+use Rattle.refusal.specs.Answer.{toldOf, firstOf, drops}
+use Rattle.state.specs.declared.State.{State}
+use Rattle.command.specs.Parsed.{parsedOf}
+use Rattle.line.specs.Perform.{commandOf}
+use Rattle.line.specs.Line.{Line, waits, startLine, afterOf, stepOf, runAll, lineOf}
+use Rattle.module.specs.Module.{guardOf}
+use Rattle.module.specs.declared.Module.{Module}
+use Rattle.lockin.specs.Calls.{Call, ran, lineCall}
+use Rattle.demands.specs.Lines.{continued, laterAnswer, later, InTurn, SeveralCommands}
+use Rattle.demands.proofs.Says.{open-call}
+use Rattle.demands.proofs.StaysAllowed.{stays-allowed}
 
-either : (t : Bool) (l : Line) → cond t l l ≡ l
-either true l = refl
-either false l = refl
+-- ---- x;y is divided as x and y are
 
-pub said-line : SaidLine
-unfolding lineOf runAll stepOf commandOf
-said-line text kind says room s one two =
-    let l = afterOf (startLine s one two) (performed room false kind s one two) in
-    rw (says .kept, says .single, says .read, sub-zero room) (either (l .dropped) l)
+cleaned-append : (x y : List ℕ) → cleaned (x ++ y) ≡ cleaned x ++ cleaned y
+unfolding cleaned
+cleaned-append [] y = refl
+cleaned-append (b ∷ x) y = by (isDropped b) (cleaned-append x y) where
+  by : (t : Bool) → cleaned (x ++ y) ≡ cleaned x ++ cleaned y →
+      cond t (cleaned (x ++ y)) (capital b ∷ cleaned (x ++ y)) ≡ cond t (cleaned x) (capital b ∷ cleaned x) ++ cleaned y
+  by true e = e
+  by false e = ap (λ s. capital b ∷ s) e
+
+module _ (sep : ℕ) where
+  on-head-some : (b : ℕ) (ps : List (List ℕ)) → 1 ≤ length (onHead b ps)
+  unfolding onHead
+  on-head-some b [] = omega arith
+  on-head-some b (p ∷ ps) = omega arith
+
+  parts-some : (s : List ℕ) → 1 ≤ length (parts sep s)
+  unfolding parts
+  parts-some [] = omega arith
+  parts-some (b ∷ s) = by (eqb b sep) where
+    by : (t : Bool) → 1 ≤ length (cond t ([] ∷ parts sep s) (onHead b (parts sep s)))
+    by true = omega arith
+    by false = on-head-some b (parts sep s)
+
+  on-head-append : (b : ℕ) (ps qs : List (List ℕ)) → 1 ≤ length ps → onHead b (ps ++ qs) ≡ onHead b ps ++ qs
+  unfolding onHead
+  on-head-append b [] qs h = absurd (omega arith)
+  on-head-append b (p ∷ ps) qs h = refl
+
+  parts-append : (x y : List ℕ) → parts sep (x ++ sep ∷ y) ≡ parts sep x ++ parts sep y
+  unfolding parts
+  parts-append [] y = rw (eq-eqb sep sep refl) refl
+  parts-append (b ∷ x) y = rw (parts-append x y) (by (eqb b sep)) where
+    by : (t : Bool) → cond t ([] ∷ (parts sep x ++ parts sep y)) (onHead b (parts sep x ++ parts sep y))
+        ≡ cond t ([] ∷ parts sep x) (onHead b (parts sep x)) ++ parts sep y
+    by true = refl
+    by false = on-head-append b (parts sep x) (parts sep y) (parts-some x)
+
+texts-append : (x y : List ℕ) → textsOf (x ++ semicolon ∷ y) ≡ textsOf x ++ textsOf y
+texts-append x y =
+    ap (parts semicolon) (cleaned-append x (semicolon ∷ y) ∙ ap (λ s. cleaned x ++ s) kept)
+    ∙ parts-append semicolon (cleaned x) (cleaned y) where
+      kept : cleaned (semicolon ∷ y) ≡ semicolon ∷ cleaned y
+      kept = unfold cleaned in refl
+
+-- ---- and runs as they do
+
+module _ (room : ℕ) where
+  run-append : (ts us : List (List ℕ)) (l : Line) → l .dropped ≡ false →
+      let r = runAll room ts l in
+      runAll room (ts ++ us) l ≡ cond (r .dropped) r (runAll room us r)
+  unfolding runAll
+  run-append [] us l passes = rw passes refl
+  run-append (t ∷ ts) us l passes =
+      by (stepOf room t l) (stepOf room t l .dropped) refl (run-append ts us (stepOf room t l)) where
+        by : (next : Line) (d : Bool) → next .dropped ≡ d →
+            (next .dropped ≡ false →
+            runAll room (ts ++ us) next
+            ≡ cond (runAll room ts next .dropped) (runAll room ts next) (runAll room us (runAll room ts next))) →
+            let r = cond d next (runAll room ts next) in
+            cond d next (runAll room (ts ++ us) next) ≡ cond (r .dropped) r (runAll room us r)
+        by next true e ih = rw e refl
+        by next false e ih = ih e
+
+  -- a line so many places further on
+  abbrev further : ℕ → Line → Line
+  further n l =
+      record {
+        state = l .state;
+        one = l .one;
+        two = l .two;
+        out = l .out;
+        answer = laterAnswer n (l .answer);
+        count = l .count + n;
+        dropped = l .dropped;
+      }
+
+  first-further : (n : ℕ) (a : Answer) (o : Outcome) (count : ℕ) →
+      firstOf (laterAnswer n a) o (count + n + 1) ≡ laterAnswer n (firstOf a o (count + 1))
+  unfolding firstOf
+  first-further n Passed outcome.Done count = refl
+  first-further n Passed (outcome.Refused r) count = ap (λ p. Refused r p) (omega arith)
+  first-further n (Refused r place) o count = refl
+
+  step-further : (n : ℕ) (t : List ℕ) (l : Line) → stepOf room t (further n l) ≡ further n (stepOf room t l)
+  unfolding stepOf afterOf
+  step-further n t l =
+      let e = commandOf (room - length (l .out)) (waits (l .out)) (parsedOf t) (l .state) (l .one) (l .two) in
+      let c : l .count + n + 1 ≡ l .count + 1 + n = omega arith in
+      rw (first-further n (l .answer) (e .outcome) (l .count), c) refl
+
+  run-further : (n : ℕ) (ts : List (List ℕ)) (l : Line) → runAll room ts (further n l) ≡ further n (runAll room ts l)
+  unfolding runAll
+  run-further n [] l = refl
+  run-further n (t ∷ ts) l =
+      rw (step-further n t l) (by (stepOf room t l .dropped) (run-further n ts (stepOf room t l))) where
+        by : (d : Bool) → runAll room ts (further n (stepOf room t l)) ≡ further n (runAll room ts (stepOf room t l)) →
+            cond d (further n (stepOf room t l)) (runAll room ts (further n (stepOf room t l)))
+            ≡ further n (cond d (stepOf room t l) (runAll room ts (stepOf room t l)))
+        by true e = refl
+        by false e = e
+
+  -- a line that is answered 0 was run whole
+  first-passed : (a : Answer) (o : Outcome) (n : ℕ) → firstOf a o n ≡ Passed → drops o ≡ true → ⊥
+  unfolding firstOf drops
+  first-passed Passed outcome.Done n e d = false≢true d
+  first-passed Passed (outcome.Refused r) n e d = let z : _≡_ {A = ℕ} 0 1 = cc in omega arith
+  first-passed (Refused r place) o n e d = let z : _≡_ {A = ℕ} 0 1 = cc in omega arith
+
+  step-passed : (t : List ℕ) (l : Line) → stepOf room t l .answer ≡ Passed → stepOf room t l .dropped ≡ true → ⊥
+  unfolding stepOf afterOf
+  step-passed t l e d = first-passed (l .answer) _ (l .count + 1) e d
+
+  step-count : (t : List ℕ) (l : Line) → stepOf room t l .count ≡ l .count + 1
+  unfolding stepOf afterOf
+  step-count t l = refl
+
+  record Whole (ts : List (List ℕ)) (l r : Line) : Type 0 where
+    passes : r .dropped ≡ false
+    count : r .count ≡ l .count + length ts
+
+  run-whole : (ts : List (List ℕ)) (l : Line) → l .dropped ≡ false → runAll room ts l .answer ≡ Passed →
+      Whole ts l (runAll room ts l)
+  unfolding runAll
+  run-whole [] l passes = λ e. record { passes = passes; count = omega arith }
+  run-whole (t ∷ ts) l passes =
+      by (stepOf room t l) (stepOf room t l .dropped) refl (step-passed t l) (step-count t l)
+      (run-whole ts (stepOf room t l))
+    where
+      by : (next : Line) (d : Bool) → next .dropped ≡ d → (next .answer ≡ Passed → next .dropped ≡ true → ⊥) →
+          next .count ≡ l .count + 1 →
+          (next .dropped ≡ false → runAll room ts next .answer ≡ Passed → Whole ts next (runAll room ts next)) →
+          cond d next (runAll room ts next) .answer ≡ Passed → Whole (t ∷ ts) l (cond d next (runAll room ts next))
+      by next true z p c ih e = absurd (p e z)
+      by next false z p c ih e =
+          let w = ih z e in
+          record { passes = w .passes; count = omega (arith, w .count) }
+
+  abbrev made : State → List ℕ → List ℕ → List ℕ → Answer → ℕ → Bool → Line
+  made s one two out answer count dropped =
+      record { state = s; one = one; two = two; out = out; answer = answer; count = count; dropped = dropped }
+
+  begun : (l : Line) (n : ℕ) → l .out ≡ [] → l .answer ≡ Passed → l .count ≡ 0 + n → l .dropped ≡ false →
+      l ≡ further n (startLine (l .state) (l .one) (l .two))
+  begun l n o a c d =
+      let z : made (l .state) (l .one) (l .two) (l .out) (l .answer) (l .count) (l .dropped)
+      ≡ made (l .state) (l .one) (l .two) [] Passed (0 + n) false = rw (o, a, c, d) refl in
+      z
+
+module _ (room : ℕ) (x y : List ℕ) (short : length (x ++ semicolon ∷ y) ≤ 256) (m : Module) (one two : List ℕ)
+    (passes : guardOf m (length one) (length two) ≡ Done)
+  where
+    abbrev ranFirst : Line
+    ranFirst = lineOf room x (m .state) one two
+
+    short-first : length x ≤ 256
+    short-first = omega (arith, length-append x (semicolon ∷ y))
+
+    short-second : length y ≤ 256
+    short-second = omega (arith, length-append x (semicolon ∷ y))
+
+    both : lineCall room (x ++ semicolon ∷ y) m one two ≡ ran (continued room y ranFirst) (m .queue)
+    unfolding lineOf
+    both =
+        open-call room (x ++ semicolon ∷ y) m one two passes short
+        ∙ ap (λ l. ran l (m .queue))
+        (ap (λ ts. runAll room ts (startLine (m .state) one two)) (texts-append x y)
+        ∙ run-append room (textsOf x) (textsOf y) (startLine (m .state) one two) refl)
+
+    calls :
+        let c = lineCall room x m one two in
+        c .told .answer ≡ Passed → c .out ≡ [] →
+        lineCall room (x ++ semicolon ∷ y) m one two
+        ≡ later (length (textsOf x)) (lineCall room y (c .after) (c .one) (c .two))
+    unfolding lineOf
+    calls =
+        rw (open-call room x m one two passes short-first) λ a o.
+        let w = run-whole room (textsOf x) (startLine (m .state) one two) refl a in
+        let l = lineOf room x (m .state) one two in
+        let n = length (textsOf x) in
+        let guard =
+        rw (open-call room x m one two passes short-first) at (stays-allowed .line room x m one two .next passes) in
+        both
+        ∙ ap (λ d. ran (cond d l (runAll room (textsOf y) l)) (m .queue)) (w .passes)
+        ∙ ap (λ z. ran (runAll room (textsOf y) z) (m .queue)) (begun room l n o a (w .count) (w .passes))
+        ∙ ap (λ z. ran z (m .queue)) (run-further room n (textsOf y) (startLine (l .state) (l .one) (l .two)))
+        ∙ ap (later n) (sym (open-call room y (ran l (m .queue) .after) (l .one) (l .two) guard short-second))
+
+pub several-commands : SeveralCommands
+several-commands room x y short m one two passes =
+    record { both = both room x y short m one two passes; calls = calls room x y short m one two passes }

@@ -9,6 +9,7 @@ use lib.ListN.{length}
 use borrow.Author.Tests.{ltb-true, leb-true, eqb-true, ne-eqb}
 use Rattle.number.proofs.Exact.{and-first, and-second}
 use Rattle.name.specs.Names.{Named, commands, sameBytes, meaningIn, meaningOf}
+use Rattle.name.specs.declared.Register.{Register}
 use Rattle.name.specs.declared.Meaning.{Meaning}
 use Rattle.name.specs.declared.Meaning.the-variants.{Setting, Channel, ChannelPair, Enable, Status, Identity, Points, Trace, Act, Unknown}
 use Rattle.settings.specs.Table.{table, rowOf, entries, freq, oflt}
@@ -87,7 +88,7 @@ abbrev fits : List ℕ → Meaning → Bool
 fits name (Setting entry) = isName name && ltb entry entries
 fits name (Channel base channels) = isName name && channelsFit (alikeOne base) base (base + channels) channels
 fits name (ChannelPair base channels) = isName name && channelsFit (alikeTwo base) base (base + 2 * channels) channels
-fits name (Enable r) = true
+fits name (Enable r) = isName name
 fits name (Status r) = true
 fits name Identity = true
 fits name Points = true
@@ -118,6 +119,9 @@ module _ (name : List ℕ) where
   name-of-one entry e =
       let h = fits-name (Setting entry) e in
       (is-name name (and-first (isName name) (ltb entry entries) h), ltb-true entry entries (and-second (isName name) (ltb entry entries) h))
+
+  pub name-of-enable : (which : Register) → meaningOf name ≡ Enable which → Name name
+  name-of-enable which e = is-name name (fits-name (Enable which) e)
 
   -- channels alike, by one test for each
   module _ (alike : ℕ → Bool) (base end channels : ℕ) (h : (isName name && channelsFit alike base end channels) ≡ true) where

@@ -1,5 +1,5 @@
 -- A setting's query and its reply sent back are taken, each as one command. Assumes nothing.
-use Prim.Native.Nat.{ℕ, _+_, _-_, _*_, _≤_}
+use Prim.Native.Nat.{ℕ, _+_, _-_, _*_, _≤_, _<_}
 use mathlib.Core.Path.{_≡_, refl, sym, ap, _∙_}
 use mathlib.Core.Bool.{true, cond}
 use mathlib.Core.List.{List, [], _∷_, _++_}
@@ -16,24 +16,25 @@ use Rattle.text.proofs.Value.{fixed-plain}
 use Rattle.text.proofs.Length.{plain-length, signed-length}
 use Rattle.text.proofs.Again.{read-again}
 use Rattle.name.specs.Names.{meaningOf}
+use Rattle.name.specs.declared.Register.{Register}
 use Rattle.name.specs.declared.Meaning.{Meaning}
-use Rattle.name.specs.declared.Meaning.the-variants.{Setting, Channel, ChannelPair}
+use Rattle.name.specs.declared.Meaning.the-variants.{Setting, Channel, ChannelPair, Enable}
 use Rattle.settings.specs.Table.{entries, rowOf}
 use Rattle.settings.specs.Setting.{settingOf}
 use Rattle.settings.specs.Allowed.{keeps}
 use Rattle.settings.proofs.Rows.{row-size, row-decimals}
 use Rattle.command.specs.Arguments.{comma, arguments}
-use Rattle.command.specs.Parsed.{parsedOf, taken, wholeRange, wholeOf, one, two, three, alone, setWith, queryWith, setSetting, setChannel, setChannelPair, queryChannel, queryChannelPair}
+use Rattle.command.specs.Parsed.{parsedOf, taken, wholeRange, wholeOf, one, two, three, alone, setWith, queryWith, setSetting, setChannel, setChannelPair, setEnable, queryEnable, queryChannel, queryChannelPair}
 use Rattle.command.proofs.Exact.{whole-is}
 use Rattle.command.specs.declared.SetArgument.the-variants as set
 use Rattle.command.specs.declared.QueryArgument.the-variants as query
 use Rattle.command.specs.declared.Kind.{Kind}
 use Rattle.command.specs.declared.Kind.the-variants.{Set, Query}
 use Rattle.demands.specs.Written.{written}
-use Rattle.demands.specs.Demand2.{Says}
 use Rattle.demands.proofs.Again.{whole, taken-whole, read-as, kept-size, written-again}
 use Rattle.demands.proofs.Bytes.{all, inNumber, inArguments, inCommand, all-append, in-arguments, in-command, parts-free, parts-joined, begins-other, cleaned-same, arguments-some, plain-bytes, plain-some, signed-bytes, signed-some}
 use Rattle.demands.proofs.Meanings.{Name, Alike, alike-written, alike-keeps}
+use Rattle.demands.proofs.Says.{Says}
 
 -- a name of four bytes, and what follows it
 parsed-name : (name rest : List ℕ) → length name ≡ 4 →
@@ -53,7 +54,7 @@ module _ (name : List ℕ) (n : Name name) (m : Meaning) (means : meaningOf name
       let c = all-append inCommand name text (n .bytes) b in
       record { short = rw length-append (omega (arith, n .four)); kept = cleaned-same (name ++ text) c; single = parts-free inCommand 59 refl (name ++ text) c; read = e }
 
-  query-says : (args : List ℕ) → length args ≤ 2 → all inArguments args ≡ true → queryWith m (arguments args) ≡ taken kind → Says (name ++ (63 ∷ args)) kind
+  query-says : (args : List ℕ) → length args ≤ 4 → all inArguments args ≡ true → queryWith m (arguments args) ≡ taken kind → Says (name ++ (63 ∷ args)) kind
   unfolding begins
   query-says args l b e =
       says (63 ∷ args) (omega arith) (in-command args b) (parsed-name name (63 ∷ args) (n .four) ∙ rw means e)
@@ -62,28 +63,31 @@ module _ (name : List ℕ) (n : Name name) (m : Meaning) (means : meaningOf name
   set-says args l b e =
       says args l (in-command args b) (parsed-name name args (n .four) ∙ rw (begins-other inArguments 63 refl args b, means) e)
 
--- a channel number is a number, and is taken as itself
+-- a whole number's text is a number, and is taken as itself
 plain-signed : (i : ℕ) → plain i ≡ signedText 0 0 i
 unfolding signedText sign
 plain-signed i =
     let e : distance 0 i ≡ i = omega arith in
     rw (le-ltb i 0 (omega arith), fixed-plain 0 (distance 0 i) refl, e)
 
-record Channels (channels i : ℕ) : Type 0 where
-  short : length (plain i) ≤ 2
+record Whole (low high i : ℕ) : Type 0 where
+  short : length (plain i) ≤ 4
   number : isNumber (plain i) ≡ true
-  value : wholeOf 1 channels (plain i) ≡ Value i
+  value : wholeOf low high (plain i) ≡ Value i
 
-channel-again : (channels i : ℕ) → 1 ≤ i → i ≤ channels → channels ≤ entries → Channels channels i
-channel-again channels i some most few =
+whole-again : (low high i : ℕ) → low ≤ i → i ≤ high → high ≤ 9999 → Whole low high i
+whole-again low high i some most few =
     let r = read-as 0 (plain i) (whole 0 i) (rw (plain-signed i) (read-again 0 0 i (omega arith) (omega arith) (omega arith))) in
     record {
-      short = plain-length 2 i (omega arith) (omega arith);
+      short = plain-length 4 i (omega arith) (omega arith);
       number = r .number;
       value =
-          sym (whole-is 1 channels (omega arith) (plain i)) ∙ ap (takenOf (wholeRange 1 channels)) (r .kept)
-          ∙ taken-whole (wholeRange 1 channels) i some most (omega arith) (omega arith) (omega arith) (mod-one (distance 0 i));
+          sym (whole-is low high (omega arith) (plain i)) ∙ ap (takenOf (wholeRange low high)) (r .kept)
+          ∙ taken-whole (wholeRange low high) i some most (omega arith) (omega arith) (omega arith) (mod-one (distance 0 i));
     }
+
+channel-again : (channels i : ℕ) → 1 ≤ i → i ≤ channels → channels ≤ entries → Whole 1 channels i
+channel-again channels i some most few = whole-again 1 channels i some most (omega arith)
 
 -- what is written at an entry is taken alike at an entry with such a row
 record Fits (e f v : ℕ) : Type 0 where
@@ -132,6 +136,19 @@ module _ (name : List ℕ) (n : Name name) where
         let w = written-again entry v h in
         set-says name n (Setting entry) means (Set (set.Value entry v)) x (omega (arith, written-short entry v h)) (in-arguments x (written-bytes entry v))
         (rw (text-one x (signed-some _ _ v) (written-bytes entry v), w .number, w .value))
+
+  module _ (which : Register) (means : meaningOf name ≡ Enable which) where
+    pub enable-asked : Says (name ++ (63 ∷ [])) (Query (query.Enable which))
+    unfolding queryWith queryEnable arguments
+    enable-asked = query-says name n (Enable which) means (Query (query.Enable which)) [] (omega arith) refl refl
+
+    pub enable-sent : (v : ℕ) → v < 256 → Says (name ++ plain v) (Set (set.Enable which v))
+    unfolding setWith setEnable one
+    enable-sent v h =
+        let w = whole-again 0 255 v (omega arith) (omega arith) (omega arith) in
+        set-says name n (Enable which) means (Set (set.Enable which v)) (plain v) (omega (arith, w .short))
+        (in-arguments (plain v) (plain-bytes v))
+        (rw (text-one (plain v) (plain-some v) (plain-bytes v), w .number, w .value))
 
   module _ (base channels i : ℕ) (some : 1 ≤ i) (most : i ≤ channels) (few : channels ≤ entries) where
     module _ (means : meaningOf name ≡ Channel base channels) where

@@ -34,15 +34,15 @@ use Rattle.demands.proofs.States.{start-allowed, states-stay}
 
 -- ---- refusals 11 and 9
 
-record Passes (m : Module) (first second : ℕ) : Type 0 where
-  allowed : allowedModule m ≡ true
+pub record Passes (m : Module) (first second : ℕ) : Type 0 where
+  pub allowed : allowedModule m ≡ true
   first-fits : eqb first (m .state .unit .capacity) ≡ true
   second-fits : eqb second (m .state .unit .capacity) ≡ true
 
 pub refused-never : {A : Type 0} (r : Refusal) → Refused r ≡ Done → A
 refused-never r p = let z : _≡_ {A = ℕ} 0 1 = cc in absurd (omega arith)
 
-passes : (m : Module) (first second : ℕ) → guardOf m first second ≡ Done → Passes m first second
+pub passes : (m : Module) (first second : ℕ) → guardOf m first second ≡ Done → Passes m first second
 unfolding guardOf
 passes m first second = by (allowedModule m) (eqb first (m .state .unit .capacity)) (eqb second (m .state .unit .capacity)) refl refl refl where
   by : (a b c : Bool) → allowedModule m ≡ a → eqb first (m .state .unit .capacity) ≡ b → eqb second (m .state .unit .capacity) ≡ c

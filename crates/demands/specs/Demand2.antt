@@ -1,87 +1,161 @@
--- Demand 2: "the reply for a setting in any allowed state (for FREQ?, in internal mode), sent back after its channel number, if any, is refused by
--- neither 1 nor 2 in any allowed state, and wherever the command is allowed it sets the same value: once over the table, for every setting, channel
--- and value".
+-- Demand 2: what the query of a setting replies, sent back, sets the same value. Over the call with a whole line, for
+-- every
+-- setting, enable and channel, in every module that refusals 11 and 9 let pass. Document 01, "Settings".
 --
--- "Demand 2 shuts out a core that refuses everything, one that replies alike to all, one that accepts and keeps nothing, one that does a line's first
--- command and merely acknowledges the others, and one whose SPTS? is invented." As wrong programs these are, under crates/: module/must-fail/refuses_everything,
--- reply_text/must-fail/replies_alike, change/must-fail/keeps_nothing, line/must-fail/later_commands_acknowledged and reply_text/must-fail/points_invented.
+-- Document 01 names five hollow cores that this demand shuts out; each is shut out by a claim on the calls and is a
+-- wrong
+-- program under crates/ besides:
+-- - one that refuses everything, by `asked` and `back` below; module/must-fail/refuses_everything,
+-- - one that replies alike to all, by `sent`: a reply tells the values; reply_text/must-fail/replies_alike,
+-- - one that accepts and keeps nothing, by `sent`; change/must-fail/keeps_nothing,
+-- - one that does a line's first command and merely acknowledges the others, by Lines.antt;
+--   line/must-fail/later_commands_acknowledged,
+-- - one whose SPTS? is invented, by Points.antt; reply_text/must-fail/points_invented.
 use Prim.Native.Nat.{ℕ, _+_, _-_, _*_, _<_, _≤_}
 use mathlib.Core.Path.{_≡_}
-use mathlib.Core.Bool.{Bool, true}
+use mathlib.Core.Bool.{true}
 use mathlib.Core.List.{List, [], _∷_, _++_, map, List·Memᴰ}
 use lib.ListN.{length}
-use Rattle.divide.specs.Divide.{parts}
-use Rattle.clean.specs.Clean.{cleaned}
 use Rattle.text.specs.Text.{plain}
 use Rattle.name.specs.Names.{meaningOf}
-use Rattle.name.specs.declared.Meaning.the-variants.{Setting, Channel, ChannelPair}
-use Rattle.settings.specs.Table.{entries, fmod, freq, behind, valueOf}
-use Rattle.command.specs.Parsed.{parsedOf, taken}
-use Rattle.command.specs.declared.SetArgument.{SetArgument}
-use Rattle.command.specs.declared.QueryArgument.{QueryArgument}
-use Rattle.command.specs.declared.Kind.{Kind}
-use Rattle.command.specs.declared.Kind.the-variants.{Set, Query}
-use Rattle.state.specs.Allowed.{allowedState}
+use Rattle.name.specs.declared.Register.{Register}
+use Rattle.name.specs.declared.Meaning.the-variants.{Setting, Channel, ChannelPair, Enable}
+use Rattle.settings.specs.Table.{entries, fmod, freq, harm, oflt, send, behind, valueOf}
+use Rattle.storage.specs.Storage.{isReset}
+use Rattle.status.specs.Status.{enableOf}
+use Rattle.refusal.specs.declared.Refusal.the-variants.{NotAllowed}
+use Rattle.refusal.specs.declared.Outcome.the-variants.{Done}
+use Rattle.refusal.specs.declared.Answer.{Answer}
+use Rattle.refusal.specs.declared.Answer.the-variants.{Passed, Refused}
+use Rattle.refusal.specs.Answer.{toldOf}
+use Rattle.state.specs.State.{markedBy}
 use Rattle.state.specs.declared.State.{State}
-use Rattle.allow.specs.Allows.{allowsOf}
-use Rattle.change.specs.Change.{stateAfter}
-use Rattle.reply_text.specs.ReplyText.{textOf}
+use Rattle.reply_text.specs.ReplyText.{endOf}
+use Rattle.module.specs.Module.{guardOf}
+use Rattle.module.specs.declared.Module.{Module}
+use Rattle.lockin.specs.Calls.{Call, lineCall}
+use Rattle.demands.specs.Representable.{ModuleFits}
+use Rattle.demands.specs.Written.{written}
 
--- a setting as commands name it: the text of its query, the text that sends a reply back, and the entries of the table that hold its values
+-- ---- the settings, as commands name them
+
+-- where a value stands: at an entry of the settings table, or at one of the enables *ESE, *SRE, LIAE and ERRE
+pub data Place : Type 0 where
+  atEntry : ℕ → Place
+  atEnable : Register → Place
+
+-- a setting: the text of its query, the text that sends a reply back, and where its values stand
 pub record Address : Type 0 where
   pub query : List ℕ
   pub set : List ℕ → List ℕ
-  pub holds : List ℕ
+  pub holds : List Place
 
--- "PHAS?" and "PHAS" with the reply; 63 is "?"
-abbrev pub plainly : List ℕ → ℕ → Address
-plainly name entry = record { query = name ++ (63 ∷ []); set = λ reply. name ++ reply; holds = entry ∷ [] }
+-- a setting without channels, as PHAS: asked by PHAS?, sent back as PHAS and the reply; 63 is "?"
+abbrev pub plainly : List ℕ → Place → Address
+plainly name place = record { query = name ++ (63 ∷ []); set = λ reply. name ++ reply; holds = place ∷ [] }
 
--- "AUXV?2" and "AUXV2," with the reply; 44 is ","
-abbrev pub channelled : List ℕ → ℕ → List ℕ → Address
-channelled name i held = record { query = name ++ (63 ∷ plain i); set = λ reply. name ++ (plain i ++ 44 ∷ reply); holds = held }
+-- channel i of a setting, as AUXV: asked by AUXV?i, sent back as AUXVi, and the reply; 44 is ","
+abbrev pub channelled : List ℕ → ℕ → List Place → Address
+channelled name i held =
+    record { query = name ++ (63 ∷ plain i); set = λ reply. name ++ (plain i ++ 44 ∷ reply); holds = held }
 
--- "every setting, channel", by what the names stand for
+-- every setting, channel and enable, by what the names stand for
 pub data IsSetting : Address → Type 0 where
-  alone : (name : List ℕ) (entry : ℕ) → meaningOf name ≡ Setting entry → IsSetting (plainly name entry)
+  alone : (name : List ℕ) (entry : ℕ) → meaningOf name ≡ Setting entry → IsSetting (plainly name (atEntry entry))
   channel : (name : List ℕ) (base channels i : ℕ) → meaningOf name ≡ Channel base channels → 1 ≤ i → i ≤ channels →
-      IsSetting (channelled name i ((base + (i - 1)) ∷ []))
+      IsSetting (channelled name i (atEntry (base + (i - 1)) ∷ []))
   pair : (name : List ℕ) (base channels i : ℕ) → meaningOf name ≡ ChannelPair base channels → 1 ≤ i → i ≤ channels →
-      IsSetting (channelled name i ((base + 2 * (i - 1)) ∷ behind (base + 2 * (i - 1)) ∷ []))
+      IsSetting (channelled name i (atEntry (base + 2 * (i - 1)) ∷ atEntry (behind (base + 2 * (i - 1))) ∷ []))
+  enable : (name : List ℕ) (which : Register) → meaningOf name ≡ Enable which →
+      IsSetting (plainly name (atEnable which))
 
--- a line that is one command and is refused by neither 1 nor 2: "at most 256 bytes", of which none is dropped or changed, no ";" (59) divides it,
--- and it is taken
-pub record Says (text : List ℕ) (kind : Kind) : Type 0 where
-  pub short : length text ≤ 256
-  pub kept : cleaned text ≡ text
-  pub single : parts 59 text ≡ text ∷ []
-  pub read : parsedOf text ≡ taken kind
+-- no entry of the table is left out
+abbrev pub EveryEntry : Type 0
+EveryEntry = (entry : ℕ) → entry < entries → (a : Address) × IsSetting a × List·Memᴰ (atEntry entry) (a .holds)
 
--- the values at some entries
-abbrev pub valuesAt : State → List ℕ → List ℕ
-valuesAt s es = map (λ entry. valueOf (s .settings) entry) es
+-- ---- values and their texts
 
--- an allowed state, with a value for each entry
-pub record Allowed (s : State) : Type 0 where
-  pub allowed : allowedState s ≡ true
-  pub full : length (s .settings .values) ≡ entries
+-- the value at a place
+abbrev pub valueAt : State → Place → ℕ
+valueAt s (atEntry entry) = valueOf (s .settings) entry
+valueAt s (atEnable which) = enableOf (s .enables) which
 
--- the query of a setting, asked in the state s, and its reply sent back in any state t
-pub record SentBack (a : Address) (s : State) (waiting : Bool) : Type 0 where
-  pub query : QueryArgument
-  pub asked : Says (a .query) (Query query)
-  pub set : SetArgument
-  pub sent : Says (a .set (textOf query s waiting)) (Set set)
-  pub same : (t : State) → Allowed t → allowsOf (t .settings) (t .moving) (Set set) ≡ true →
-      valuesAt (stateAfter (Set set) t) (a .holds) ≡ valuesAt s (a .holds)
+abbrev pub valuesAt : State → List Place → List ℕ
+valuesAt s places = map (valueAt s) places
 
--- "for FREQ?, in internal mode"
+-- its text: by the entry's decimals and sign; an enable is a whole number
+abbrev pub textAt : State → Place → List ℕ
+textAt s (atEntry entry) = written entry (valueOf (s .settings) entry)
+textAt s (atEnable which) = plain (enableOf (s .enables) which)
+
+-- several texts with "," between them
+abbrev pub joined : List (List ℕ) → List ℕ
+joined [] = []
+joined (x ∷ []) = x
+joined (x ∷ y ∷ more) = x ++ 44 ∷ joined (y ∷ more)
+
+-- the reply of a setting's query, without its end
+abbrev pub replyTo : Address → State → List ℕ
+replyTo a s = joined (map (textAt s) (a .holds))
+
+-- ---- the claim
+
+-- a module that there can be, with its traces, that 11 and 9 do not refuse
+pub record Ready (m : Module) (one two : List ℕ) : Type 0 where
+  pub fits : ModuleFits m
+  pub passes : guardOf m (length one) (length two) ≡ Done
+
+-- a call that answers 0, writes these reply bytes and changes nothing
+abbrev pub answered : List ℕ → Module → List ℕ → List ℕ → Call
+answered out m one two = record { after = m; one = one; two = two; out = out; told = toldOf Passed (length out) }
+
+-- the settings that a state can refuse by 3: FREQ, HARM, FMOD, OFLT and SEND
+pub data CanRefuse : List Place → Type 0 where
+  frequency : CanRefuse (atEntry freq ∷ [])
+  harmonic : CanRefuse (atEntry harm ∷ [])
+  reference : CanRefuse (atEntry fmod ∷ [])
+  constant : CanRefuse (atEntry oflt ∷ [])
+  end : CanRefuse (atEntry send ∷ [])
+
+-- what comes of sending values back to a module: they are set, with no reply and no trace point changed; or, where its
+-- state does not allow them, refusal 3 at the line's first command, with its error bit and nothing else
+pub data SentBack (places : List Place) (values : List ℕ) (t : Module) (one two : List ℕ) : Call → Type 0 where
+  taken : (after : Module) → after .queue ≡ t .queue → valuesAt (after .state) places ≡ values →
+      SentBack places values t one two
+      (record { after = after; one = one; two = two; out = []; told = toldOf Passed 0 })
+  refused : CanRefuse places →
+      SentBack places values t one two
+      (record {
+        after = record { state = markedBy NotAllowed (t .state); queue = t .queue };
+        one = one;
+        two = two;
+        out = [];
+        told = toldOf (Refused NotAllowed 1) 0;
+      })
+
+-- FREQ? replies the frequency in force, which is FREQ's own value in internal mode
 abbrev pub Internal : Address → State → Type 0
-Internal a s = a .holds ≡ freq ∷ [] → valueOf (s .settings) fmod ≡ 1
+Internal a s = a .holds ≡ atEntry freq ∷ [] → valueOf (s .settings) fmod ≡ 1
+
+-- SEND is set only while storage is reset
+abbrev pub Settable : Address → State → Type 0
+Settable a s = a .holds ≡ atEntry send ∷ [] → isReset (s .moving .storage) ≡ true
+
+-- a setting's query and its reply:
+-- - asked, with room for it, the call writes exactly the reply and the port's end, and changes nothing;
+-- - sent back to any module, it sets the same values there or is refused by 3;
+-- - sent back to the module that replied, it is taken and changes nothing
+pub record RoundTrip (a : Address) (m : Module) (one two : List ℕ) : Type 0 where
+  pub asked : (room : ℕ) → length (replyTo a (m .state)) + 1 ≤ room →
+      lineCall room (a .query) m one two
+      ≡ answered (replyTo a (m .state) ++ (endOf (m .state .unit .port) ∷ [])) m one two
+  pub sent : (room : ℕ) (t : Module) (first second : List ℕ) → Ready t first second →
+      SentBack (a .holds) (valuesAt (m .state) (a .holds)) t first second
+      (lineCall room (a .set (replyTo a (m .state))) t first second)
+  pub back : Settable a (m .state) → (room : ℕ) →
+      lineCall room (a .set (replyTo a (m .state))) m one two ≡ answered [] m one two
 
 abbrev pub Demand2 : Type 0
-Demand2 = (a : Address) → IsSetting a → (s : State) → Allowed s → Internal a s → (waiting : Bool) → SentBack a s waiting
-
--- "once over the table, for every setting": no entry of the table is left out
-abbrev pub EveryEntry : Type 0
-EveryEntry = (entry : ℕ) → entry < entries → (a : Address) × IsSetting a × List·Memᴰ entry (a .holds)
+Demand2 =
+    (a : Address) → IsSetting a → (m : Module) (one two : List ℕ) → Ready m one two → Internal a (m .state) →
+    RoundTrip a m one two

@@ -1,16 +1,54 @@
--- Demand 2 on whole lines: what a line that says one command does, over the definition that the line call's contract cites.
-use Prim.Native.Nat.{ℕ}
-use mathlib.Core.Bool.{false}
+-- Lines of several commands, over the call with a whole line: a line x;y does what x does and then what y does.
+-- Document 01, "Lines and commands".
+use Prim.Native.Nat.{ℕ, _+_, _≤_}
+use mathlib.Core.Bool.{cond}
 use mathlib.Core.Path.{_≡_}
-use mathlib.Core.List.{List}
-use Rattle.command.specs.declared.Kind.{Kind}
-use Rattle.state.specs.declared.State.{State}
-use Rattle.line.specs.Perform.{performed}
-use Rattle.line.specs.Line.{startLine, afterOf, lineOf}
-use Rattle.demands.specs.Demand2.{Says}
+use mathlib.Core.List.{List, [], _∷_, _++_}
+use lib.ListN.{length}
+use Rattle.clean.specs.Texts.{semicolon, textsOf}
+use Rattle.refusal.specs.declared.Outcome.the-variants.{Done}
+use Rattle.refusal.specs.declared.Answer.{Answer}
+use Rattle.refusal.specs.declared.Answer.the-variants.{Passed, Refused}
+use Rattle.refusal.specs.Answer.{toldOf}
+use Rattle.line.specs.Line.{Line, runAll, lineOf}
+use Rattle.module.specs.Module.{guardOf}
+use Rattle.module.specs.declared.Module.{Module}
+use Rattle.lockin.specs.Calls.{Call, ran, lineCall}
 
--- such a line performs its command and nothing else, so it is refused by 3 or 4 or not at all
-abbrev pub SaidLine : Type 0
-SaidLine =
-    (text : List ℕ) (kind : Kind) → Says text kind → (room : ℕ) (s : State) (one two : List ℕ) →
-    lineOf room text s one two ≡ afterOf (startLine s one two) (performed room false kind s one two)
+-- the commands of y, begun where a line stands: with its state and traces, behind its reply bytes and its places; none
+-- where a refusal 4 dropped the rest
+abbrev pub continued : ℕ → List ℕ → Line → Line
+continued room y l = cond (l .dropped) l (runAll room (textsOf y) l)
+
+-- an answer whose places are so many further on
+abbrev pub laterAnswer : ℕ → Answer → Answer
+laterAnswer n Passed = Passed
+laterAnswer n (Refused r place) = Refused r (place + n)
+
+-- a call whose answer's place is so much further on
+abbrev pub later : ℕ → Call → Call
+later n c =
+    record {
+      after = c .after;
+      one = c .one;
+      two = c .two;
+      out = c .out;
+      told = toldOf (laterAnswer n (c .told .answer)) (c .told .length);
+    }
+
+-- x;y in a module that 11 and 9 let pass: the commands of x, and then those of y from where x left the module, its
+-- traces and the reply room. Where x is answered 0 and replies nothing, that is one call with x and one with y after
+-- it, the places counted on.
+pub record InTurn (room : ℕ) (x y : List ℕ) (m : Module) (one two : List ℕ) : Type 0 where
+  pub both : lineCall room (x ++ semicolon ∷ y) m one two
+      ≡ ran (continued room y (lineOf room x (m .state) one two)) (m .queue)
+  pub calls :
+      let c = lineCall room x m one two in
+      c .told .answer ≡ Passed → c .out ≡ [] →
+      lineCall room (x ++ semicolon ∷ y) m one two
+      ≡ later (length (textsOf x)) (lineCall room y (c .after) (c .one) (c .two))
+
+abbrev pub SeveralCommands : Type 0
+SeveralCommands =
+    (room : ℕ) (x y : List ℕ) → length (x ++ semicolon ∷ y) ≤ 256 → (m : Module) (one two : List ℕ) →
+    guardOf m (length one) (length two) ≡ Done → InTurn room x y m one two

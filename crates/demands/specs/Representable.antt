@@ -1,5 +1,7 @@
--- What the machine can hold: the modules, traces and events that there can be. The definitions of the calls speak of numbers without end; the
--- fields of a module, the words of a trace and the values of an event have the sizes that are told here, so a claim that there is such a module, trace
+-- What the machine can hold: the modules, traces and events that there can be. The definitions of the calls speak of
+-- numbers without end; the
+-- fields of a module, the words of a trace and the values of an event have the sizes that are told here, so a claim
+-- that there is such a module, trace
 -- or event asks for these too.
 use Prim.Native.Nat.{ℕ, _^_, _<_}
 use mathlib.Core.Path.{_≡_}
@@ -45,7 +47,8 @@ pub record EnablesFit (e : Enables) : Type 0 where
   pub lia : Byte (e .lia)
   pub errors : Byte (e .errors)
 
--- a value for each entry of the settings table; the external frequency; storage; the latest pair; what is fixed at start
+-- a value for each entry of the settings table; the external frequency; storage; the latest pair; what is fixed at
+-- start
 pub record StateFits (s : State) : Type 0 where
   pub full : length (s .settings .values) ≡ entries
   pub values : Every Word (s .settings .values)

@@ -1,0 +1,191 @@
+-- A value that is set where it stands already: allowed in its own state, and nothing changes. Assumes nothing.
+use Prim.Native.Nat.{ℕ, _+_, _%_, _^_, _<_}
+use mathlib.Core.Path.{_≡_, refl, sym, ap, _∙_}
+use mathlib.Core.Bool.{Bool, true, false, cond, not, _&&_, _||_, true≢false}
+use mathlib.Core.List.{List, [], _∷_}
+use native.Mathlib.Omega.{arith}
+use lib.Bits.{bitOr, or-zero-r}
+use lib.Dec.{leb, eqb}
+use lib.Seq.{set-getD}
+use borrow.Author.Tests.{eqb-true, eqb-false, eq-eqb, ne-eqb}
+use Rattle.number.proofs.Exact.{and-first, and-second}
+use Rattle.name.specs.declared.Register.{Register}
+use Rattle.name.specs.declared.Register.the-variants.{Standard, Service, Lia, Errors}
+use Rattle.settings.specs.Table.{fmod, freq, harm, oflt, send, behind, valueOf, withValue}
+use Rattle.settings.specs.Frequency.{above200, crossingOf, detectionOf, withinLimit, timeConstantStands}
+use Rattle.settings.specs.Frequency.{frequencyInRange}
+use Rattle.settings.specs.Allowed.{keepsAll, allowedOf}
+use Rattle.settings.specs.declared.Settings.{Settings}
+use Rattle.storage.specs.Storage.{isReset}
+use Rattle.storage.specs.Storage as storage
+use Rattle.status.specs.Bits.{bitOf, withoutBit}
+use Rattle.status.specs.Status.{serviceUnused, enableOf, withEnableByte, withEnable}
+use Rattle.status.specs.Status as status
+use Rattle.status.specs.declared.Enables.{Enables}
+use Rattle.status.proofs.Bits.{apart-bits, power-here, bit-lt}
+use Rattle.status.proofs.Kept.{kept}
+use Rattle.command.specs.declared.SetArgument.{SetArgument}
+use Rattle.command.specs.declared.SetArgument.the-variants as set
+use Rattle.command.specs.declared.Kind.the-variants.{Set}
+use Rattle.state.specs.Allowed.{keepsParts, keepsLatest, keepsUnit, allowedState}
+use Rattle.state.specs.State.{detectionNow, crossedFrom}
+use Rattle.state.specs.declared.Moving.{Moving}
+use Rattle.state.specs.declared.State.{State}
+use Rattle.allow.specs.Allows.{keepsLimit, valueAllowed, setAllowed}
+use Rattle.change.specs.Change.{withPair, setIn, settingsAfter, storageAfter, externalAfter, movingAfter}
+use Rattle.change.specs.Change.{registersAfter, enablesSet, enablesAfter, changedBy, stateAfter}
+use Rattle.demands.specs.Representable.{EnablesFit, StateFits}
+use Rattle.demands.specs.Demand2.{Place, atEntry, atEnable, CanRefuse, frequency, harmonic, reference, constant}
+use Rattle.demands.specs.Demand2.{end}
+
+-- ---- what a state asks of a value, by its entry
+
+value-by : (s : Settings) (m : Moving) (entry v : ℕ) (P : Bool → Type 0) →
+    (entry ≡ freq → P (eqb (valueOf s fmod) 1 && keepsLimit s m entry v)) →
+    (entry ≡ harm → P (keepsLimit s m entry v)) →
+    (entry ≡ fmod → P (keepsLimit s m entry v)) →
+    (entry ≡ oflt → P (timeConstantStands (detectionOf s (m .external)) v)) →
+    (entry ≡ send → P (isReset (m .storage))) →
+    P true → P (valueAllowed s m entry v)
+unfolding valueAllowed
+value-by s m entry v P f h r c e o =
+    if-else (eqb entry freq) (λ t. f (eqb-true entry freq t))
+    (if-else (eqb entry harm) (λ t. h (eqb-true entry harm t))
+    (if-else (eqb entry fmod) (λ t. r (eqb-true entry fmod t))
+    (if-else (eqb entry oflt) (λ t. c (eqb-true entry oflt t))
+    (if-else (eqb entry send) (λ t. e (eqb-true entry send t)) o))))
+  where
+    if-else : (t : Bool) {x y : Bool} → (t ≡ true → P x) → P y → P (cond t x y)
+    if-else true p q = p refl
+    if-else false p q = q
+
+-- which sets a state can refuse
+pub set-refused : (s : Settings) (m : Moving) (entry v : ℕ) → setAllowed s m (set.Value entry v) ≡ false →
+    CanRefuse (atEntry entry ∷ [])
+unfolding setAllowed
+set-refused s m entry v =
+    value-by s m entry v (λ t. t ≡ false → CanRefuse (atEntry entry ∷ []))
+    (λ z p. rw z frequency) (λ z p. rw z harmonic) (λ z p. rw z reference) (λ z p. rw z constant) (λ z p. rw z end)
+    (λ p. absurd (true≢false p))
+
+-- ---- what stands may be set
+
+module _ (s : State) (ok : allowedState s ≡ true) where
+  abbrev detection : ℕ
+  detection = detectionOf (s .settings) (s .moving .external)
+
+  settings-allowed : allowedOf (s .settings) (s .moving .external) ≡ true
+  unfolding allowedState keepsParts
+  settings-allowed = and-first _ _ (and-first _ _ ok)
+
+  rules : (withinLimit detection && timeConstantStands detection (valueOf (s .settings) oflt)) ≡ true
+  unfolding allowedOf
+  rules =
+      and-second (frequencyInRange (s .moving .external)) _
+      (and-second (keepsAll (s .settings)) _ settings-allowed)
+
+  own-limit : (entry : ℕ) → keepsLimit (s .settings) (s .moving) entry (valueOf (s .settings) entry) ≡ true
+  unfolding keepsLimit
+  own-limit entry = rw (set-getD (s .settings .values) entry 0) (and-first (withinLimit detection) _ rules)
+
+  pub value-back : (entry : ℕ) → (entry ≡ freq → valueOf (s .settings) fmod ≡ 1) →
+      (entry ≡ send → isReset (s .moving .storage) ≡ true) →
+      setAllowed (s .settings) (s .moving) (set.Value entry (valueOf (s .settings) entry)) ≡ true
+  unfolding setAllowed
+  value-back entry internal settable =
+      value-by (s .settings) (s .moving) entry (valueOf (s .settings) entry) (λ t. t ≡ true)
+      (λ z. rw (eq-eqb (valueOf (s .settings) fmod) 1 (internal z)) (own-limit entry))
+      (λ z. own-limit entry) (λ z. own-limit entry)
+      (λ z. rw z (and-second (withinLimit detection) _ rules))
+      settable refl
+
+-- ---- and changes nothing
+
+-- where the detection frequency stays, nothing is crossed
+crossed-same : (s : State) → crossedFrom (detectionNow s) s ≡ s
+unfolding crossedFrom crossingOf
+crossed-same s = by (above200 (detectionNow s)) where
+  by : (t : Bool) →
+      let shortens = (not t && t) && leb 14 (valueOf (s .settings) oflt) in
+      record {
+        settings = withValue (s .settings) oflt (cond shortens 13 (valueOf (s .settings) oflt));
+        moving = s .moving;
+        registers = status.withLia (s .registers) (cond ((not t && t) || (not t && t)) 16 0 + cond shortens 32 0);
+        enables = s .enables;
+        latest = s .latest;
+        unit = s .unit;
+      } ≡ s
+  by true = rw (set-getD (s .settings .values) oflt 0, or-zero-r (s .registers .lia)) refl
+  by false = rw (set-getD (s .settings .values) oflt 0, or-zero-r (s .registers .lia)) refl
+
+-- a set that leaves settings and enables as they are
+set-same : (a : SetArgument) (s : State) → setIn (s .settings) a ≡ s .settings →
+    enablesSet a (s .enables) ≡ s .enables → stateAfter (Set a) s ≡ s
+unfolding stateAfter changedBy settingsAfter movingAfter externalAfter storageAfter registersAfter enablesAfter
+set-same a s p q = rw (p, q) (crossed-same s)
+
+pub value-same : (s : State) (entry : ℕ) → stateAfter (Set (set.Value entry (valueOf (s .settings) entry))) s ≡ s
+unfolding setIn enablesSet
+value-same s entry =
+    set-same (set.Value entry (valueOf (s .settings) entry)) s (rw (set-getD (s .settings .values) entry 0) refl) refl
+
+pub pair-same : (s : State) (entry : ℕ) →
+    stateAfter (Set (set.Pair entry (valueOf (s .settings) entry) (valueOf (s .settings) (behind entry)))) s ≡ s
+unfolding setIn withPair enablesSet
+pair-same s entry =
+    set-same (set.Pair entry (valueOf (s .settings) entry) (valueOf (s .settings) (behind entry))) s
+    (rw (set-getD (s .settings .values) entry 0, set-getD (s .settings .values) (behind entry) 0) refl) refl
+
+-- ---- enables
+
+-- *SRE keeps no bit 6
+service-free : (s : State) → allowedState s ≡ true → withoutBit (s .enables .service) 6 ≡ s .enables .service
+unfolding allowedState keepsParts withoutBit
+service-free s ok =
+    let x = s .enables .service in
+    let keeps = storage.keepsOf (s .moving .storage) (s .unit .capacity) (valueOf (s .settings) send) in
+    let k = kept (s .registers) (s .enables)
+    (and-second keeps _
+    (and-second (allowedOf (s .settings) (s .moving .external)) _ (and-first (keepsParts s) _ ok))) in
+    let z : bitOf x 6 ≡ 0 = omega (arith, apart-bits x (2 ^ 6) (k .service-free) 6, power-here 6, bit-lt x 6) in
+    rw z (omega arith)
+
+pub enable-byte : (e : Enables) → EnablesFit e → (which : Register) → enableOf e which < 256
+unfolding enableOf
+enable-byte e fit Standard = fit .standard
+enable-byte e fit Service = fit .service
+enable-byte e fit Lia = fit .lia
+enable-byte e fit Errors = fit .errors
+
+module _ (s : State) (ok : allowedState s ≡ true) (fit : EnablesFit (s .enables)) where
+  -- the byte that is kept of an enable's own value
+  same-byte : (which : Register) → enableOf (s .enables) which % 256 ≡ enableOf (s .enables) which
+  same-byte which = omega (arith, enable-byte (s .enables) fit which)
+
+  -- in any enables, an enable set to that value has it
+  pub enable-set : (e : Enables) (which : Register) →
+      enableOf (withEnable e which (enableOf (s .enables) which)) which ≡ enableOf (s .enables) which
+  unfolding withEnable
+  enable-set e which = rw (same-byte which) (by which) where
+    by : (which : Register) →
+        enableOf (withEnableByte e which (enableOf (s .enables) which)) which ≡ enableOf (s .enables) which
+    by Standard = unfold enableOf withEnableByte in refl
+    by Service = unfold enableOf withEnableByte in service-free s ok
+    by Lia = unfold enableOf withEnableByte in refl
+    by Errors = unfold enableOf withEnableByte in refl
+
+  pub enable-same : (which : Register) → stateAfter (Set (set.Enable which (enableOf (s .enables) which))) s ≡ s
+  unfolding setIn enablesSet withEnable
+  enable-same which =
+      set-same (set.Enable which (enableOf (s .enables) which)) s refl (rw (same-byte which) (by which)) where
+        by : (which : Register) → withEnableByte (s .enables) which (enableOf (s .enables) which) ≡ s .enables
+        by Standard = unfold enableOf withEnableByte in refl
+        by Service = unfold enableOf withEnableByte in rw (service-free s ok) refl
+        by Lia = unfold enableOf withEnableByte in refl
+        by Errors = unfold enableOf withEnableByte in refl
+
+  pub enable-after : (t : State) (which : Register) →
+      enableOf (stateAfter (Set (set.Enable which (enableOf (s .enables) which))) t .enables) which
+      ≡ enableOf (s .enables) which
+  unfolding stateAfter crossedFrom changedBy enablesAfter enablesSet
+  enable-after t which = enable-set (t .enables) which
