@@ -7,7 +7,6 @@ use mathlib.Core.Bool.{Bool, true, false, cond, _&&_, _||_}
 use mathlib.Core.List.{List}
 use lib.Dec.{leb, ltb, eqb}
 use lib.ListN.{length}
-use borrow.Author.Tests.{le-leb}
 use Rattle.refusal.specs.declared.Refusal.{Refusal}
 use Rattle.refusal.specs.declared.Refusal.the-variants.{LongLine, BadEvent, BadTraces, BadStart, BadState}
 use Rattle.refusal.specs.declared.Outcome.{Outcome}
@@ -38,8 +37,9 @@ use Rattle.demands.specs.Demand1.{FirstRefused, RunsLine, fedTo, RunsWai
 use Rattle.demands.specs.Demand1.{RefusedCall, emptiedAt, RefusedEvent, OfStart, RefusedStart, RefusedPoll}
 use Rattle.demands.specs.Demand1.{RefusedChangesNothing}
 use Rattle.demands.specs.Demand1 as demand
-use Rattle.demands.proofs.InTurn.{marked-only, done-never, command-refused, step-refused, commands-are}
-use Rattle.demands.proofs.InTurn.{passed-never, answering}
+use Rattle.demands.proofs.OneByOne.{marked-only, done-never, command-refused, step-refused, commands-are}
+use Rattle.demands.proofs.OneByOne.{passed-never, answering}
+use Rattle.demands.proofs.Says.{open-call}
 
 -- refusals 11 and 9, by the tests that decide them
 guard-by : (m : Module) (first second : ℕ) (P : Outcome → Type 0) →
@@ -204,10 +204,8 @@ module _ (m : Module) (one two : List ℕ) where
 line-runs : (room : ℕ) (bytes : List ℕ) (m : Module) (one two : List ℕ) →
     guardOf m (length one) (length two) ≡ Done → length bytes ≤ queue.lineLimit →
     RunsLine room bytes m (m .queue) one two (lineCall room bytes m one two)
-unfolding lineCall wholeLine
 line-runs room bytes m one two g h =
-    rw (guarded-done m one two (wholeLine room bytes m one two) g, le-leb _ _ h)
-    (ran-runs room bytes m (m .queue) one two)
+    rw (open-call room bytes m one two g h) (ran-runs room bytes m (m .queue) one two)
 
 line-placed : (room : ℕ) (bytes : List ℕ) (m : Module) (one two : List ℕ) (refusal : Refusal) (p : ℕ) →
     lineCall room bytes m one two .told .answer ≡ answer.Refused refusal (p + 1) →

@@ -4,7 +4,7 @@ pub mod Change
 pub mod Command
 pub mod States
 pub mod StaysAllowed
-pub mod InTurn
+pub mod OneByOne
 pub mod Demand1
 pub mod Says
 pub mod Again

@@ -104,21 +104,21 @@ pub data Continues (room : ℕ) (text : List ℕ) (l : Line) : Type 0 where
   accepted : AcceptedStep room text l → Continues room text l
   refused : (refusal : Refusal) → RefusedStep refusal room text l → refusal ≢ NoRoom → Continues room text l
 
--- commands in turn, each of the kind told: each starts from the line as the one before it left it
-pub data InTurn (Kind : List ℕ → Line → Type 0) (room : ℕ) : List (List ℕ) → Line → Line → Type 0 where
-  none : (l : Line) → InTurn Kind room [] l l
+-- commands one after the other, each of the kind told: each starts from the line as the one before it left it
+pub data OneByOne (Kind : List ℕ → Line → Type 0) (room : ℕ) : List (List ℕ) → Line → Line → Type 0 where
+  none : (l : Line) → OneByOne Kind room [] l l
   next : (text : List ℕ) (more : List (List ℕ)) (l end : Line) → Kind text l →
-      InTurn Kind room more (stepOf room text l) end → InTurn Kind room (text ∷ more) l end
+      OneByOne Kind room more (stepOf room text l) end → OneByOne Kind room (text ∷ more) l end
 
 -- the commands of a line from its start to its end, and the length told: every command has its turn, and the length of
 -- the reply is told; or one is refused by 4, which drops those after it: the bytes written before it stay (`reply` of
 -- RefusedStep), and the length told is 0
 pub data Commands (room : ℕ) (start : Line) : List (List ℕ) → Line → ℕ → Type 0 where
   whole : (texts : List (List ℕ)) (end : Line) →
-      InTurn (Continues room) room texts start end →
+      OneByOne (Continues room) room texts start end →
       Commands room start texts end (length (end .out))
   crowded : (before : List (List ℕ)) (text : List ℕ) (dropped : List (List ℕ)) (here : Line) →
-      InTurn (Continues room) room before start here →
+      OneByOne (Continues room) room before start here →
       RefusedStep NoRoom room text here →
       Commands room start (before ++ (text ∷ dropped)) (stepOf room text here) 0
 
@@ -130,7 +130,7 @@ pub record FirstRefused (refusal : Refusal) (place room : ℕ) (texts : List (Li
   pub commands : texts ≡ before ++ (text ∷ after)
   pub counted : place ≡ length before + 1
   pub here : Line
-  pub accepted : InTurn (AcceptedStep room) room before start here
+  pub accepted : OneByOne (AcceptedStep room) room before start here
   pub refused : RefusedStep refusal room text here
 
 -- ---- a call that runs a line
@@ -148,7 +148,7 @@ pub record RunsLine (room : ℕ) (bytes : List ℕ) (m : Module) (q : Queue) (on
   pub reply : c .out ≡ end .out
   pub told : c .told .answer ≡ end .answer
   pub passed : c .told .answer ≡ answer.Passed →
-      InTurn (AcceptedStep room) room (textsOf bytes) (startLine (m .state) one two) end
+      OneByOne (AcceptedStep room) room (textsOf bytes) (startLine (m .state) one two) end
   pub placed : (refusal : Refusal) (place : ℕ) → c .told .answer ≡ answer.Refused refusal place →
       FirstRefused refusal place room (textsOf bytes) (startLine (m .state) one two)
 

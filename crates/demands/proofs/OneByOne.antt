@@ -1,4 +1,4 @@
--- A line's commands in turn: what a refused one changes, where the next one starts, and which one the answer names.
+-- A line's commands one by one: what a refused one changes, where the next one starts, which one the answer names.
 -- Assumes nothing.
 use Prim.Native.Nat.{ℕ, _+_, _-_, _^_, _≤_}
 use native.Mathlib.Omega.{arith}
@@ -26,7 +26,7 @@ use Rattle.line.specs.Perform.{Effect, refusedBy, doneBy, commandOf}
 use Rattle.line.specs.Line.{Line, waits, afterOf, stepOf, runAll}
 use Rattle.lockin.specs.Calls.{lengthTold}
 use Rattle.demands.specs.Demand1.{OfCommand, malformed, outOfRange, notAllowed, noRoom, BitSet, Marked}
-use Rattle.demands.specs.Demand1.{RefusedCommand, effectIn, RefusedStep, AcceptedStep, Continues, InTurn}
+use Rattle.demands.specs.Demand1.{RefusedCommand, effectIn, RefusedStep, AcceptedStep, Continues, OneByOne}
 use Rattle.demands.specs.Demand1.{Commands, FirstRefused}
 use Rattle.demands.specs.Demand1 as demand
 use Rattle.demands.proofs.Sane.{parsed-sane}
@@ -122,10 +122,6 @@ module _ (room : ℕ) (text : List ℕ) (l : Line) where
       stepOf room text l .answer ≡ firstOf (l .answer) o (l .count + 1)
   unfolding stepOf afterOf
   answer-by o p = ap (λ x. firstOf (l .answer) x (l .count + 1)) p
-
-  step-count : stepOf room text l .count ≡ l .count + 1
-  unfolding stepOf afterOf
-  step-count = refl
 
   pub step-refused : (refusal : Refusal) → effectIn room text l .outcome ≡ Refused refusal →
       RefusedStep refusal room text l
@@ -257,7 +253,7 @@ passed-never r place p = let z : _≡_ {A = ℕ} 0 1 = cc in absurd (omega arith
 pub record Answering (room : ℕ) (texts : List (List ℕ)) (l end : Line) : Type 0 where
   pub kept : (r : Refusal) (place : ℕ) → l .answer ≡ answer.Refused r place → end .answer ≡ answer.Refused r place
   pub passed : l .answer ≡ answer.Passed → end .answer ≡ answer.Passed →
-      InTurn (AcceptedStep room) room texts l end
+      OneByOne (AcceptedStep room) room texts l end
   pub placed : l .answer ≡ answer.Passed → (r : Refusal) (place : ℕ) → end .answer ≡ answer.Refused r place →
       (p : ℕ) × (place ≡ l .count + p) × FirstRefused r p room texts l
 
@@ -272,6 +268,7 @@ answering-ends room l =
 module _ (room : ℕ) (text : List ℕ) (more : List (List ℕ)) (l end : Line) where
   answering-accepted : AcceptedStep room text l → Answering room more (stepOf room text l) end →
       Answering room (text ∷ more) l end
+  unfolding stepOf afterOf
   answering-accepted a f =
       record {
         kept = λ r place e. f .kept r place (a .answer ∙ e);
@@ -285,7 +282,7 @@ module _ (room : ℕ) (text : List ℕ) (more : List (List ℕ)) (l end : Line) 
       later r place x =
           let y = x .2 in (
             x .0 + 1,
-            omega (arith, x .1, step-count room text l),
+            omega (arith, x .1),
             record {
               before = text ∷ y .before;
               text = y .text;
