@@ -104,11 +104,11 @@ pub data Continues (room : ℕ) (text : List ℕ) (l : Line) : Type 0 where
   accepted : AcceptedStep room text l → Continues room text l
   refused : (refusal : Refusal) → RefusedStep refusal room text l → refusal ≢ NoRoom → Continues room text l
 
--- commands one after the other, each of the kind told: each starts from the line as the one before it left it
-pub data OneByOne (Kind : List ℕ → Line → Type 0) (room : ℕ) : List (List ℕ) → Line → Line → Type 0 where
-  none : (l : Line) → OneByOne Kind room [] l l
-  next : (text : List ℕ) (more : List (List ℕ)) (l end : Line) → Kind text l →
-      OneByOne Kind room more (stepOf room text l) end → OneByOne Kind room (text ∷ more) l end
+-- commands one after the other, each a step as told: each starts from the line as the one before it left it
+pub data OneByOne (Step : List ℕ → Line → Type 0) (room : ℕ) : List (List ℕ) → Line → Line → Type 0 where
+  none : (l : Line) → OneByOne Step room [] l l
+  next : (text : List ℕ) (more : List (List ℕ)) (l end : Line) → Step text l →
+      OneByOne Step room more (stepOf room text l) end → OneByOne Step room (text ∷ more) l end
 
 -- the commands of a line from its start to its end, and the length told: every command has its turn, and the length of
 -- the reply is told; or one is refused by 4, which drops those after it: the bytes written before it stay (`reply` of
