@@ -4,6 +4,7 @@ pub mod Change
 pub mod Command
 pub mod States
 pub mod StaysAllowed
+pub mod OneByOne
 pub mod Demand1
 pub mod Says
 pub mod Again

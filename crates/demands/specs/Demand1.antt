@@ -1,28 +1,39 @@
--- Demand 1: "a refused command (1, 2, 3, 4) changes no setting, no trace point, no reply byte, and sets the bit laid down for it and nothing else;
--- a refused event, line or state likewise".
-use Prim.Native.Nat.{ℕ, _+_, _-_}
-use mathlib.Core.Bool.{Bool, cond, not}
+-- Demand 1: what is refused changes nothing, save the error bit laid down for it. This holds of each command of a line,
+-- and of lines, bytes, events, starts and polls, so no caller has to test anything beforehand. The statement is
+-- RefusedChangesNothing, at the end. Document 01, "Refusal numbers" and "Lines and commands".
+use Prim.Native.Nat.{ℕ, _+_, _-_, _≤_}
+use mathlib.Core.Bool.{Bool, true, false, cond, not}
+use mathlib.Core.Logic.{_≢_, _↔_}
 use mathlib.Core.Path.{_≡_}
-use mathlib.Core.List.{List, [], _∷_}
+use mathlib.Core.List.{List, [], _∷_, _++_}
 use lib.ListN.{length}
 use Rattle.refusal.specs.declared.Refusal.{Refusal}
-use Rattle.refusal.specs.declared.Refusal.the-variants.{Malformed, OutOfRange, NotAllowed, NoRoom, LongLine, BadEvent, BadTraces, BadState}
-use Rattle.refusal.specs.declared.Outcome.the-variants.{Refused}
+use Rattle.refusal.specs.declared.Refusal.the-variants.{Malformed, OutOfRange, NotAllowed, NoRoom, LongLine}
+use Rattle.refusal.specs.declared.Refusal.the-variants.{BadEvent, BadTraces, BadStart, BadState}
+use Rattle.refusal.specs.declared.Outcome.the-variants.{Done, Refused}
 use Rattle.status.specs.Bits.{bitOf}
+use Rattle.clean.specs.Texts.{textsOf}
 use Rattle.command.specs.Parsed.{parsedOf}
 use Rattle.state.specs.State.{markedBy}
 use Rattle.state.specs.declared.State.{State}
 use Rattle.line.specs.Perform.{Effect, commandOf}
 use Rattle.refusal.specs.Answer.{isNoRoom, firstOf}
-use Rattle.line.specs.Line.{Line, waits, stepOf, runAll}
+use Rattle.line.specs.Line.{Line, waits, stepOf, runAll, startLine}
 use Rattle.event.specs.declared.Event.{Event}
 use Rattle.refusal.specs.declared.Answer.the-variants as answer
-use Rattle.queue.specs.Queue.{emptiedOf, droppingIs, isMarked}
+use Rattle.queue.specs.Queue.{lineLimit, emptiedOf, droppingIs, isMarked, waitingBytes, Fed, fedOf}
 use Rattle.queue.specs.declared.Queue.{Queue}
+use Rattle.queue.specs.declared.Ended.the-variants as ended
+use Rattle.module.specs.Start.{unitKnown, tracesFit, freshModule, startOf}
+use Rattle.module.specs.Module.{allowedModule, guardOf, pollOf}
 use Rattle.module.specs.declared.Module.{Module}
+use Rattle.module.specs.declared.Started.{Started}
+use Rattle.module.specs.declared.Polled.{Polled}
 use Rattle.lockin.specs.Calls.{Call, lineCall, byteCall, EventCall, eventCall}
 
--- "1 .. CMD set", "2 .. EXE set", "3 .. EXE set", "4 .. QRY set": the refusals of a command, each with the bit laid down for it; "2 QRY, 4 EXE, 5 CMD"
+-- ---- the bit laid down
+
+-- the refusals of a command, 1 to 4, each with its bit of the standard event register: 5 is CMD, 4 is EXE, 2 is QRY
 pub data OfCommand : Refusal → ℕ → Type 0 where
   malformed : OfCommand Malformed 5
   outOfRange : OfCommand OutOfRange 4
@@ -46,6 +57,8 @@ pub record Marked (refusal : Refusal) (i : ℕ) (before after : State) : Type 0 
   pub latest : after .latest ≡ before .latest
   pub unit : after .unit ≡ before .unit
 
+-- ---- a command
+
 -- a refused command: the bit laid down for it is set, no trace point is changed and no reply byte is written
 pub record RefusedCommand (refusal : Refusal) (s : State) (one two : List ℕ) (e : Effect) : Type 0 where
   pub bit : ℕ
@@ -55,8 +68,14 @@ pub record RefusedCommand (refusal : Refusal) (s : State) (one two : List ℕ) (
   pub second : e .two ≡ two
   pub reply : e .out ≡ []
 
--- the same within a line: the reply bytes before it stay; "A refused command does not stop the rest of the line, save under 4"
+-- what a command does as the next one of a line that is on its way
+abbrev pub effectIn : ℕ → List ℕ → Line → Effect
+effectIn room text l = commandOf (room - length (l .out)) (waits (l .out)) (parsedOf text) (l .state) (l .one) (l .two)
+
+-- a refused command of a line: the line's reply bytes stay as they are, its answer is this refusal where it had none
+-- before, and the commands after it still have their turn, save under 4
 pub record RefusedStep (refusal : Refusal) (room : ℕ) (text : List ℕ) (l : Line) : Type 0 where
+  pub told : effectIn room text l .outcome ≡ Refused refusal
   pub bit : ℕ
   pub laid : OfCommand refusal bit
   pub marked : Marked refusal bit (l .state) (stepOf room text l .state)
@@ -67,56 +86,197 @@ pub record RefusedStep (refusal : Refusal) (room : ℕ) (text : List ℕ) (l : L
   pub next : (more : List (List ℕ)) →
       runAll room (text ∷ more) l ≡ cond (isNoRoom refusal) (stepOf room text l) (runAll room more (stepOf room text l))
 
--- "9 ..": "nothing"; "11 ..": "nothing"
+-- an accepted command of a line: the state and the traces that it leaves are the line's, its reply comes after the
+-- bytes before it, and the commands after it have their turn from there
+pub record AcceptedStep (room : ℕ) (text : List ℕ) (l : Line) : Type 0 where
+  pub told : effectIn room text l .outcome ≡ Done
+  pub state : stepOf room text l .state ≡ effectIn room text l .state
+  pub first : stepOf room text l .one ≡ effectIn room text l .one
+  pub second : stepOf room text l .two ≡ effectIn room text l .two
+  pub reply : stepOf room text l .out ≡ l .out ++ effectIn room text l .out
+  pub answer : stepOf room text l .answer ≡ l .answer
+  pub next : (more : List (List ℕ)) → runAll room (text ∷ more) l ≡ runAll room more (stepOf room text l)
+
+-- ---- the commands of a line
+
+-- a command after which the next one has its turn: an accepted one, or one refused by another refusal than 4
+pub data Continues (room : ℕ) (text : List ℕ) (l : Line) : Type 0 where
+  accepted : AcceptedStep room text l → Continues room text l
+  refused : (refusal : Refusal) → RefusedStep refusal room text l → refusal ≢ NoRoom → Continues room text l
+
+-- commands one after the other, each a step as told: each starts from the line as the one before it left it
+pub data OneByOne (Step : List ℕ → Line → Type 0) (room : ℕ) : List (List ℕ) → Line → Line → Type 0 where
+  none : (l : Line) → OneByOne Step room [] l l
+  next : (text : List ℕ) (more : List (List ℕ)) (l end : Line) → Step text l →
+      OneByOne Step room more (stepOf room text l) end → OneByOne Step room (text ∷ more) l end
+
+-- the commands of a line from its start to its end, and the length told: every command has its turn, and the length of
+-- the reply is told; or one is refused by 4, which drops those after it: the bytes written before it stay (`reply` of
+-- RefusedStep), and the length told is 0
+pub data Commands (room : ℕ) (start : Line) : List (List ℕ) → Line → ℕ → Type 0 where
+  whole : (texts : List (List ℕ)) (end : Line) →
+      OneByOne (Continues room) room texts start end →
+      Commands room start texts end (length (end .out))
+  crowded : (before : List (List ℕ)) (text : List ℕ) (dropped : List (List ℕ)) (here : Line) →
+      OneByOne (Continues room) room before start here →
+      RefusedStep NoRoom room text here →
+      Commands room start (before ++ (text ∷ dropped)) (stepOf room text here) 0
+
+-- the first refused command of a line stands at this place, counted from 1: each command before it is accepted
+pub record FirstRefused (refusal : Refusal) (place room : ℕ) (texts : List (List ℕ)) (start : Line) : Type 0 where
+  pub before : List (List ℕ)
+  pub text : List ℕ
+  pub after : List (List ℕ)
+  pub commands : texts ≡ before ++ (text ∷ after)
+  pub counted : place ≡ length before + 1
+  pub here : Line
+  pub accepted : OneByOne (AcceptedStep room) room before start here
+  pub refused : RefusedStep refusal room text here
+
+-- ---- a call that runs a line
+
+-- the call c runs the commands of these bytes on the module m, and the queue is q after it: its module, traces, reply
+-- bytes and answer are those at the end of the line. It answers 0 only where each command is accepted, and else the
+-- first refused one's refusal and place.
+pub record RunsLine (room : ℕ) (bytes : List ℕ) (m : Module) (q : Queue) (one two : List ℕ) (c : Call) : Type 0 where
+  pub end : Line
+  pub commands : Commands room (startLine (m .state) one two) (textsOf bytes) end (c .told .length)
+  pub state : c .after .state ≡ end .state
+  pub queue : c .after .queue ≡ q
+  pub first : c .one ≡ end .one
+  pub second : c .two ≡ end .two
+  pub reply : c .out ≡ end .out
+  pub told : c .told .answer ≡ end .answer
+  pub passed : c .told .answer ≡ answer.Passed →
+      OneByOne (AcceptedStep room) room (textsOf bytes) (startLine (m .state) one two) end
+  pub placed : (refusal : Refusal) (place : ℕ) → c .told .answer ≡ answer.Refused refusal place →
+      FirstRefused refusal place room (textsOf bytes) (startLine (m .state) one two)
+
+-- what a byte brings about in the module's queue
+abbrev pub fedTo : Module → ℕ → Bool → Fed
+fedTo m b mark = fedOf (m .queue) (m .state .unit .port) b mark
+
+-- a byte that ends a line: the bytes that wait run as the line, and none waits after it
+abbrev pub RunsWaiting : ℕ → ℕ → Bool → Module → List ℕ → List ℕ → Type 0
+RunsWaiting room b mark m one two =
+    let q = fedTo m b mark .queue in
+    RunsLine room (waitingBytes q) m (emptiedOf q) one two (byteCall room b mark m one two)
+
+-- a byte that ends no line: the answer is 0, and only the queue is another one
+pub record OnlyQueued (m : Module) (q : Queue) (one two : List ℕ) (c : Call) : Type 0 where
+  pub state : c .after .state ≡ m .state
+  pub queue : c .after .queue ≡ q
+  pub first : c .one ≡ one
+  pub second : c .two ≡ two
+  pub reply : c .out ≡ []
+  pub answer : c .told .answer ≡ answer.Passed
+  pub length : c .told .length ≡ 0
+
+-- ---- a call that is refused before any command, at place 0
+
+-- 9 and 11: nothing is changed, and the length told is 0
 pub record Untouched (m : Module) (one two : List ℕ) (c : Call) : Type 0 where
   pub after : c .after ≡ m
   pub first : c .one ≡ one
   pub second : c .two ≡ two
   pub reply : c .out ≡ []
+  pub length : c .told .length ≡ 0
 
--- "5 ..": "INP set"; "0 INP"
+-- 5: bit 0, INP, is set; the queue becomes q, and nothing else is changed
 pub record OnlyMarked (m : Module) (q : Queue) (one two : List ℕ) (c : Call) : Type 0 where
   pub marked : Marked LongLine 0 (m .state) (c .after .state)
   pub queue : c .after .queue ≡ q
   pub first : c .one ≡ one
   pub second : c .two ≡ two
   pub reply : c .out ≡ []
+  pub length : c .told .length ≡ 0
 
--- the refusals of a call before any command: "place 0"; under 5 the queue becomes q
+-- the refusals at place 0; under 5 the queue becomes q
 pub data RefusedCall (m : Module) (q : Queue) (one two : List ℕ) (c : Call) : Refusal → Type 0 where
   stateRefused : Untouched m one two c → RefusedCall m q one two c BadState
   tracesRefused : Untouched m one two c → RefusedCall m q one two c BadTraces
   lineTooLong : OnlyMarked m q one two c → RefusedCall m q one two c LongLine
 
--- "queue emptied, bytes dropped up to the line's end ..; an end mark on byte 257 ends that line too"
+-- the queue after byte 257 of a line: empty, and bytes are dropped from here on, save where that byte's end mark ends
+-- the line
 abbrev pub emptiedAt : Queue → Bool → Queue
 emptiedAt q marked = droppingIs (not marked) (emptiedOf q)
 
--- "6 ..", "9 ..", "11 ..": "nothing"
+-- ---- events, starts and polls
+
+-- the refusals of an event: 6, 9 and 11
 pub data OfEvent : Refusal → Type 0 where
   badEvent : OfEvent BadEvent
   badTraces : OfEvent BadTraces
   badState : OfEvent BadState
 
+-- a refused event: nothing is changed
 pub record RefusedEvent (refusal : Refusal) (m : Module) (one two : List ℕ) (c : EventCall) : Type 0 where
   pub told : OfEvent refusal
   pub after : c .after ≡ m
   pub first : c .one ≡ one
   pub second : c .two ≡ two
 
--- a refused command, event, line or state; "A line handed over whole uses no queue"
+-- the refusals of a start: 10 where the serial number or the port is none that there is, else 9 where the traces have
+-- lengths that they may not have
+pub data OfStart (serial port first second : ℕ) : Refusal → Type 0 where
+  unitUnknown : unitKnown serial port ≡ false → OfStart serial port first second BadStart
+  tracesUnfit : unitKnown serial port ≡ true → tracesFit first second ≡ false →
+      OfStart serial port first second BadTraces
+
+-- a refused start gives a fresh module: serial number 0, GPIB (port 1), capacity 1
+pub record RefusedStart (serial port first second : ℕ) (refusal : Refusal) (s : Started) : Type 0 where
+  pub told : OfStart serial port first second refusal
+  pub after : s .after ≡ freshModule (record { serial = 0; port = 1; capacity = 1 })
+
+-- a refused poll: 11, where the module is none that may be; the status byte is told as 0. A poll gives no module back,
+-- so it changes none.
+pub record RefusedPoll (refusal : Refusal) (m : Module) (p : Polled) : Type 0 where
+  pub told : refusal ≡ BadState
+  pub outside : allowedModule m ≡ false
+  pub status : p .status ≡ 0
+
+-- ---- demand 1
+
 pub record RefusedChangesNothing : Type 0 where
+  -- a command by itself, and as the next one of any line
   pub command : (room : ℕ) (waiting : Bool) (text : List ℕ) (s : State) (one two : List ℕ) (refusal : Refusal) →
       commandOf room waiting (parsedOf text) s one two .outcome ≡ Refused refusal →
       RefusedCommand refusal s one two (commandOf room waiting (parsedOf text) s one two)
   pub step : (room : ℕ) (text : List ℕ) (l : Line) (refusal : Refusal) →
-      commandOf (room - length (l .out)) (waits (l .out)) (parsedOf text) (l .state) (l .one) (l .two) .outcome ≡ Refused refusal →
-      RefusedStep refusal room text l
+      effectIn room text l .outcome ≡ Refused refusal → RefusedStep refusal room text l
+  -- a line handed over whole, which uses no queue: refused before any command; run where 11, 9 and 5 do not refuse it;
+  -- and where it answers a place other than 0 it was run
   pub line : (room : ℕ) (bytes : List ℕ) (m : Module) (one two : List ℕ) (refusal : Refusal) →
       lineCall room bytes m one two .told .answer ≡ answer.Refused refusal 0 →
       RefusedCall m (m .queue) one two (lineCall room bytes m one two) refusal
+  pub line-runs : (room : ℕ) (bytes : List ℕ) (m : Module) (one two : List ℕ) →
+      guardOf m (length one) (length two) ≡ Done → length bytes ≤ lineLimit →
+      RunsLine room bytes m (m .queue) one two (lineCall room bytes m one two)
+  pub line-placed : (room : ℕ) (bytes : List ℕ) (m : Module) (one two : List ℕ) (refusal : Refusal) (p : ℕ) →
+      lineCall room bytes m one two .told .answer ≡ answer.Refused refusal (p + 1) →
+      RunsLine room bytes m (m .queue) one two (lineCall room bytes m one two)
+  -- a byte: refused before any command; the end of a line, which runs; no end of one; and where it answers a place
+  -- other than 0 it ended a line, which ran
   pub byte : (room b : ℕ) (mark : Bool) (m : Module) (one two : List ℕ) (refusal : Refusal) →
       byteCall room b mark m one two .told .answer ≡ answer.Refused refusal 0 →
-      RefusedCall m (emptiedAt (m .queue) (isMarked (m .state .unit .port) mark)) one two (byteCall room b mark m one two) refusal
+      RefusedCall m (emptiedAt (m .queue) (isMarked (m .state .unit .port) mark)) one two
+      (byteCall room b mark m one two) refusal
+  pub byte-runs : (room b : ℕ) (mark : Bool) (m : Module) (one two : List ℕ) →
+      guardOf m (length one) (length two) ≡ Done → fedTo m b mark .ended ≡ ended.Line →
+      RunsWaiting room b mark m one two
+  pub byte-waits : (room b : ℕ) (mark : Bool) (m : Module) (one two : List ℕ) →
+      guardOf m (length one) (length two) ≡ Done → fedTo m b mark .ended ≡ ended.Nothing →
+      OnlyQueued m (fedTo m b mark .queue) one two (byteCall room b mark m one two)
+  pub byte-placed : (room b : ℕ) (mark : Bool) (m : Module) (one two : List ℕ) (refusal : Refusal) (p : ℕ) →
+      byteCall room b mark m one two .told .answer ≡ answer.Refused refusal (p + 1) →
+      (fedTo m b mark .ended ≡ ended.Line) × RunsWaiting room b mark m one two
+  -- an event; a start and a poll, refused exactly when told
   pub event : (event : Event) (m : Module) (one two : List ℕ) (refusal : Refusal) →
-      eventCall event m one two .outcome ≡ Refused refusal → RefusedEvent refusal m one two (eventCall event m one two)
+      eventCall event m one two .outcome ≡ Refused refusal →
+      RefusedEvent refusal m one two (eventCall event m one two)
+  pub start : (serial port first second : ℕ) (refusal : Refusal) →
+      (startOf serial port first second .outcome ≡ Refused refusal)
+      ↔ RefusedStart serial port first second refusal (startOf serial port first second)
+  pub poll : (m : Module) (refusal : Refusal) →
+      (pollOf m .outcome ≡ Refused refusal) ↔ RefusedPoll refusal m (pollOf m)

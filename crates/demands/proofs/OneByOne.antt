@@ -1,0 +1,342 @@
+-- A line's commands one by one: what a refused one changes, where the next one starts, which one the answer names.
+-- Assumes nothing.
+use Prim.Native.Nat.{ℕ, _+_, _-_, _^_, _≤_}
+use native.Mathlib.Omega.{arith}
+use mathlib.Core.Logic.{_≢_, _⊎_, inl, inr}
+use mathlib.Core.Path.{_≡_, refl, sym, ap, subst, _∙_}
+use mathlib.Core.Bool.{Bool, true, false, cond}
+use mathlib.Core.List.{List, [], _∷_, _++_, append-nil}
+use lib.Bits.{bitOr}
+use lib.ListN.{length}
+use Rattle.refusal.specs.Meaning.{meaningOf}
+use Rattle.refusal.specs.declared.Refusal.{Refusal}
+use Rattle.refusal.specs.declared.Refusal.the-variants.{Malformed, OutOfRange, NotAllowed, NoRoom, LongLine}
+use Rattle.refusal.specs.declared.Refusal.the-variants.{BadEvent, NoReset, LongScriptLine, BadTraces}
+use Rattle.refusal.specs.declared.Refusal.the-variants.{BadStart, BadState}
+use Rattle.refusal.specs.declared.Outcome.{Outcome}
+use Rattle.refusal.specs.declared.Outcome.the-variants.{Done, Refused}
+use Rattle.refusal.specs.declared.Answer.{Answer}
+use Rattle.refusal.specs.declared.Answer.the-variants as answer
+use Rattle.refusal.specs.Answer.{isNoRoom, drops, firstOf}
+use Rattle.command.specs.Parsed.{parsedOf}
+use Rattle.status.proofs.Bits.{bit-lt, bit-or, power-here, power-other}
+use Rattle.state.specs.State.{markedBy}
+use Rattle.state.specs.declared.State.{State}
+use Rattle.line.specs.Perform.{Effect, refusedBy, doneBy, commandOf}
+use Rattle.line.specs.Line.{Line, waits, afterOf, stepOf, runAll}
+use Rattle.lockin.specs.Calls.{lengthTold}
+use Rattle.demands.specs.Demand1.{OfCommand, malformed, outOfRange, notAllowed, noRoom, BitSet, Marked}
+use Rattle.demands.specs.Demand1.{RefusedCommand, effectIn, RefusedStep, AcceptedStep, Continues, OneByOne}
+use Rattle.demands.specs.Demand1.{Commands, FirstRefused}
+use Rattle.demands.specs.Demand1 as demand
+use Rattle.demands.proofs.Sane.{parsed-sane}
+use Rattle.demands.proofs.Command.{command-by}
+
+-- ---- the bit laid down
+
+bit-set : (i x : ℕ) → BitSet i x (bitOr x (2 ^ i))
+bit-set i x =
+    record {
+      here = bit-or x (2 ^ i) i ∙ omega (arith, power-here i, bit-lt x i);
+      others = λ j n. bit-or x (2 ^ i) j ∙ omega (arith, power-other i j (λ e. n (sym e)));
+    }
+
+pub marked-only : (r : Refusal) (i : ℕ) (s : State) → meaningOf r .bits ≡ 2 ^ i → Marked r i s (markedBy r s)
+unfolding markedBy
+marked-only r i s e =
+    record {
+      state = refl;
+      standard = rw e (bit-set i (s .registers .standard));
+      lia = refl;
+      errors = refl;
+      settings = refl;
+      moving = refl;
+      enables = refl;
+      latest = refl;
+      unit = refl;
+    }
+
+command-bit : (r : Refusal) → meaningOf r .number ≤ 4 → (i : ℕ) × OfCommand r i × (meaningOf r .bits ≡ 2 ^ i)
+command-bit Malformed n = (5, malformed, refl)
+command-bit OutOfRange n = (4, outOfRange, refl)
+command-bit NotAllowed n = (4, notAllowed, refl)
+command-bit NoRoom n = (2, noRoom, refl)
+command-bit LongLine n = absurd (omega arith)
+command-bit BadEvent n = absurd (omega arith)
+command-bit NoReset n = absurd (omega arith)
+command-bit LongScriptLine n = absurd (omega arith)
+command-bit BadTraces n = absurd (omega arith)
+command-bit BadStart n = absurd (omega arith)
+command-bit BadState n = absurd (omega arith)
+
+-- ---- commands
+
+pub done-never : {A : Type 0} (r : Refusal) → Done ≡ Refused r → A
+done-never r p = let z : _≡_ {A = ℕ} 0 1 = cc in absurd (omega arith)
+
+refused-command : (r : Refusal) → meaningOf r .number ≤ 4 → (s : State) (one two : List ℕ) →
+    RefusedCommand r s one two (refusedBy r s one two)
+refused-command r n s one two =
+    let b = command-bit r n in
+    record {
+      bit = b .0;
+      laid = b .1;
+      marked = marked-only r (b .0) s (b .2);
+      first = refl;
+      second = refl;
+      reply = refl;
+    }
+
+pub command-refused : (room : ℕ) (waiting : Bool) (text : List ℕ) (s : State) (one two : List ℕ) (refusal : Refusal) →
+    commandOf room waiting (parsedOf text) s one two .outcome ≡ Refused refusal →
+    RefusedCommand refusal s one two (commandOf room waiting (parsedOf text) s one two)
+unfolding doneBy
+command-refused room waiting text s one two refusal =
+    command-by room waiting s one two
+    (λ (e : Effect). e .outcome ≡ Refused refusal → RefusedCommand refusal s one two e)
+    (λ p. done-never refusal p)
+    (λ r n p. let same : r ≡ refusal = cc in rw (← same) (refused-command r n s one two))
+    (λ kind k a p. done-never refusal p)
+    (parsedOf text) (parsed-sane text)
+
+-- ---- one command of a line
+
+first-done : (a : Answer) (n : ℕ) → firstOf a Done n ≡ a
+unfolding firstOf
+first-done answer.Passed n = refl
+first-done (answer.Refused r place) n = refl
+
+module _ (room : ℕ) (text : List ℕ) (l : Line) where
+  -- whether the rest is dropped goes by the outcome
+  dropped-by : (o : Outcome) → effectIn room text l .outcome ≡ o → stepOf room text l .dropped ≡ drops o
+  unfolding stepOf afterOf
+  dropped-by o p = ap drops p
+
+  next-by : (o : Outcome) → effectIn room text l .outcome ≡ o → (more : List (List ℕ)) →
+      let next = stepOf room text l in
+      runAll room (text ∷ more) l ≡ cond (drops o) next (runAll room more next)
+  unfolding runAll
+  next-by o p more = rw (dropped-by o p)
+
+  answer-by : (o : Outcome) → effectIn room text l .outcome ≡ o →
+      stepOf room text l .answer ≡ firstOf (l .answer) o (l .count + 1)
+  unfolding stepOf afterOf
+  answer-by o p = ap (λ x. firstOf (l .answer) x (l .count + 1)) p
+
+  pub step-refused : (refusal : Refusal) → effectIn room text l .outcome ≡ Refused refusal →
+      RefusedStep refusal room text l
+  unfolding stepOf afterOf drops
+  step-refused refusal p =
+      let c =
+      command-refused (room - length (l .out)) (waits (l .out)) text (l .state) (l .one) (l .two) refusal p in
+      record {
+        told = p;
+        bit = c .bit;
+        laid = c .laid;
+        marked = c .marked;
+        first = c .first;
+        second = c .second;
+        reply = ap (λ (b : List ℕ). l .out ++ b) (c .reply) ∙ append-nil (l .out);
+        answer = answer-by (Refused refusal) p;
+        next = next-by (Refused refusal) p;
+      }
+
+  step-accepted : effectIn room text l .outcome ≡ Done → AcceptedStep room text l
+  unfolding stepOf afterOf drops
+  step-accepted p =
+      record {
+        told = p;
+        state = refl;
+        first = refl;
+        second = refl;
+        reply = refl;
+        answer = answer-by Done p ∙ first-done (l .answer) (l .count + 1);
+        next = next-by Done p;
+      }
+
+  -- a command of a line is accepted or refused
+  step-by : (P : Type 0) → (AcceptedStep room text l → P) → ((r : Refusal) → RefusedStep r room text l → P) → P
+  step-by P takes refuses = by (effectIn room text l .outcome) refl where
+    by : (o : Outcome) → effectIn room text l .outcome ≡ o → P
+    by Done p = takes (step-accepted p)
+    by (Refused r) p = refuses r (step-refused r p)
+
+-- of the refusals of a command only 4 drops the rest of the line
+crowds : (r : Refusal) (bit : ℕ) → OfCommand r bit → (r ≡ NoRoom) ⊎ (isNoRoom r ≡ false)
+unfolding isNoRoom
+crowds r bit malformed = inr refl
+crowds r bit outOfRange = inr refl
+crowds r bit notAllowed = inr refl
+crowds r bit noRoom = inl refl
+
+crowds-not : (r : Refusal) → isNoRoom r ≡ false → r ≢ NoRoom
+unfolding isNoRoom
+crowds-not r e h =
+    let z : true ≡ false = ap isNoRoom (sym h) ∙ e in
+    let n : _≡_ {A = ℕ} 0 1 = cc in
+    omega arith
+
+-- ---- the commands of a line
+
+-- what holds of a line by its commands: of none, of one more that the line goes on after, of one that drops the rest
+module _ (room : ℕ) (P : List (List ℕ) → Line → Line → Type 0)
+    (ends : (l : Line) → P [] l l)
+    (goes : (text : List ℕ) (more : List (List ℕ)) (l end : Line) → Continues room text l →
+    stepOf room text l .dropped ≡ false → P more (stepOf room text l) end → P (text ∷ more) l end)
+    (drop : (text : List ℕ) (more : List (List ℕ)) (l : Line) → RefusedStep NoRoom room text l →
+    stepOf room text l .dropped ≡ true → P (text ∷ more) l (stepOf room text l))
+  where
+    module _ (text : List ℕ) (more : List (List ℕ)) (l : Line)
+        (rest : P more (stepOf room text l) (runAll room more (stepOf room text l)))
+      where
+        run-goes : Continues room text l → stepOf room text l .dropped ≡ false →
+            runAll room (text ∷ more) l ≡ runAll room more (stepOf room text l) →
+            P (text ∷ more) l (runAll room (text ∷ more) l)
+        run-goes c d e =
+            let end = runAll room more (stepOf room text l) in
+            subst (P (text ∷ more) l) (sym e) (goes text more l end c d rest)
+
+        run-refused : (r : Refusal) → RefusedStep r room text l → (r ≡ NoRoom) ⊎ (isNoRoom r ≡ false) →
+            P (text ∷ more) l (runAll room (text ∷ more) l)
+        unfolding isNoRoom drops
+        run-refused r a (inl e) =
+            let b : RefusedStep NoRoom room text l = rw e at a in
+            subst (P (text ∷ more) l) (sym (b .next more))
+            (drop text more l b (dropped-by room text l (Refused NoRoom) (b .told)))
+        run-refused r a (inr e) =
+            run-goes (demand.refused r a (crowds-not r e))
+            (dropped-by room text l (Refused r) (a .told) ∙ e) (a .next more ∙ rw e)
+
+        run-next : P (text ∷ more) l (runAll room (text ∷ more) l)
+        unfolding drops
+        run-next =
+            step-by room text l (P (text ∷ more) l (runAll room (text ∷ more) l))
+            (λ a. run-goes (demand.accepted a) (dropped-by room text l Done (a .told)) (a .next more))
+            (λ r a. run-refused r a (crowds r (a .bit) (a .laid)))
+
+    run-by : (texts : List (List ℕ)) (l : Line) → P texts l (runAll room texts l)
+    unfolding runAll
+    run-by [] l = ends l
+    run-by (text ∷ more) l = run-next text more l (run-by more (stepOf room text l))
+
+-- one more command before the others
+commands-cons : (room : ℕ) (text : List ℕ) (l : Line) → Continues room text l →
+    (more : List (List ℕ)) (end : Line) (n : ℕ) → Commands room (stepOf room text l) more end n →
+    Commands room l (text ∷ more) end n
+commands-cons room text l c more end n (demand.whole texts last t) =
+    demand.whole (text ∷ texts) last (demand.next text texts l last c t)
+commands-cons room text l c more end n (demand.crowded before other dropped here t r) =
+    demand.crowded (text ∷ before) other dropped here (demand.next text before l here c t) r
+
+-- the commands of a line, with the length told, which goes by whether the rest was dropped
+pub commands-are : (room : ℕ) (texts : List (List ℕ)) (l : Line) → l .dropped ≡ false →
+    Commands room l texts (runAll room texts l) (lengthTold (runAll room texts l))
+commands-are room =
+    run-by room (λ texts l end. l .dropped ≡ false → Commands room l texts end (lengthTold end))
+    (λ l d. at [] l l false d (demand.whole [] l (demand.none l)))
+    (λ text more l end c d f e. commands-cons room text l c more end (lengthTold end) (f d))
+    (λ text more l r d e.
+    at (text ∷ more) l (stepOf room text l) true d (demand.crowded [] text more l (demand.none l) r))
+  where
+    at : (texts : List (List ℕ)) (l end : Line) (t : Bool) → end .dropped ≡ t →
+        Commands room l texts end (cond t 0 (length (end .out))) → Commands room l texts end (lengthTold end)
+    at texts l end t e =
+        subst (λ (d : Bool). Commands room l texts end (cond d 0 (length (end .out)))) (sym e)
+
+-- ---- the answer of a line
+
+pub passed-never : {A : Type 0} (r : Refusal) (place : ℕ) → answer.Passed ≡ answer.Refused r place → A
+passed-never r place p = let z : _≡_ {A = ℕ} 0 1 = cc in absurd (omega arith)
+
+-- a refusal that the line has stays its answer; a line without one passes where each command is accepted, and else the
+-- first refused one is its answer
+pub record Answering (room : ℕ) (texts : List (List ℕ)) (l end : Line) : Type 0 where
+  pub kept : (r : Refusal) (place : ℕ) → l .answer ≡ answer.Refused r place → end .answer ≡ answer.Refused r place
+  pub passed : l .answer ≡ answer.Passed → end .answer ≡ answer.Passed →
+      OneByOne (AcceptedStep room) room texts l end
+  pub placed : l .answer ≡ answer.Passed → (r : Refusal) (place : ℕ) → end .answer ≡ answer.Refused r place →
+      (p : ℕ) × (place ≡ l .count + p) × FirstRefused r p room texts l
+
+answering-ends : (room : ℕ) (l : Line) → Answering room [] l l
+answering-ends room l =
+    record {
+      kept = λ r place e. e;
+      passed = λ e f. demand.none l;
+      placed = λ e r place f. passed-never r place (sym e ∙ f);
+    }
+
+module _ (room : ℕ) (text : List ℕ) (more : List (List ℕ)) (l end : Line) where
+  answering-accepted : AcceptedStep room text l → Answering room more (stepOf room text l) end →
+      Answering room (text ∷ more) l end
+  unfolding stepOf afterOf
+  answering-accepted a f =
+      record {
+        kept = λ r place e. f .kept r place (a .answer ∙ e);
+        passed = λ e g. demand.next text more l end a (f .passed (a .answer ∙ e) g);
+        placed = λ e r place g. later r place (f .placed (a .answer ∙ e) r place g);
+      }
+    where
+      later : (r : Refusal) (place : ℕ) →
+          ((p : ℕ) × (place ≡ stepOf room text l .count + p) × FirstRefused r p room more (stepOf room text l)) →
+          (p : ℕ) × (place ≡ l .count + p) × FirstRefused r p room (text ∷ more) l
+      later r place x =
+          let y = x .2 in (
+            x .0 + 1,
+            omega (arith, x .1),
+            record {
+              before = text ∷ y .before;
+              text = y .text;
+              after = y .after;
+              commands = ap (λ (ts : List (List ℕ)). text ∷ ts) (y .commands);
+              counted = omega (arith, y .counted);
+              here = y .here;
+              accepted = demand.next text (y .before) l (y .here) a (y .accepted);
+              refused = y .refused;
+            },
+          )
+
+  -- after a refused command: what the line answers then stays its answer
+  module _ (r : Refusal) (a : RefusedStep r room text l)
+      (stays : (q : Refusal) (place : ℕ) → stepOf room text l .answer ≡ answer.Refused q place →
+      end .answer ≡ answer.Refused q place)
+    where
+      told-here : l .answer ≡ answer.Passed → end .answer ≡ answer.Refused r (l .count + 1)
+      unfolding firstOf
+      told-here e = stays r (l .count + 1) (a .answer ∙ rw e)
+
+      kept-here : (q : Refusal) (place : ℕ) → l .answer ≡ answer.Refused q place → end .answer ≡ answer.Refused q place
+      unfolding firstOf
+      kept-here q place e = stays q place (a .answer ∙ rw e)
+
+      answering-refused : Answering room (text ∷ more) l end
+      answering-refused =
+          record {
+            kept = kept-here;
+            passed = λ e f. passed-never r (l .count + 1) (sym f ∙ told-here e);
+            placed = λ e q place f.
+                let same : r ≡ q = cc (told-here e) in
+                let at : place ≡ l .count + 1 = cc (told-here e) in (
+                  1,
+                  at,
+                  record {
+                    before = [];
+                    text = text;
+                    after = more;
+                    commands = refl;
+                    counted = omega arith;
+                    here = l;
+                    accepted = demand.none l;
+                    refused = rw same at a;
+                  },
+                );
+          }
+
+pub answering : (room : ℕ) (texts : List (List ℕ)) (l : Line) → Answering room texts l (runAll room texts l)
+answering room =
+    run-by room (Answering room) (answering-ends room) (λ text more l end c d f. by text more l end f c)
+    (λ text more l a d. answering-refused room text more l (stepOf room text l) NoRoom a (λ q place e. e))
+  where
+    by : (text : List ℕ) (more : List (List ℕ)) (l end : Line) → Answering room more (stepOf room text l) end →
+        Continues room text l → Answering room (text ∷ more) l end
+    by text more l end f (demand.accepted a) = answering-accepted room text more l end a f
+    by text more l end f (demand.refused r a n) = answering-refused room text more l end r a (f .kept)
