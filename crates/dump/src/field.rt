@@ -29,7 +29,8 @@ pub const PHASES: [u8; 25] = *b"reset running paused done";
 
 const LAST_BYTE: u32 = 255;
 
-// What a field's value is: a number up to a largest one, a setting by its entry, a point, a phase, the bytes that wait, or 0 or 1.
+// What a field's value is: a number up to a largest one, a setting by its entry, a point, a phase, the bytes that wait,
+// or 0 or 1.
 pub enum Kind {
     Number(u32),
     Setting(usize),
@@ -39,6 +40,7 @@ pub enum Kind {
     Flag,
 }
 
+// The kind of a field's value.
 pub fn kind_of(field: usize) -> Kind {
     if RSLP <= field {
         if field <= TSTR {
@@ -58,6 +60,7 @@ pub fn kind_of(field: usize) -> Kind {
     }
 }
 
+// A phase as a number, by its place among the words.
 fn number_of(phase: Phase) -> u32 {
     match phase {
         Phase::Reset => 0,
@@ -67,6 +70,7 @@ fn number_of(phase: Phase) -> u32 {
     }
 }
 
+// The phase with a number.
 fn phase_of(number: u32) -> Phase {
     match number {
         0 => Phase::Reset,
@@ -125,6 +129,7 @@ fn queue_of(bytes: &[u8], dropping: bool) -> Queue {
     }
 }
 
+// Another serial number, port or capacity.
 fn with_unit(u: Unit, field: usize, value: u32) -> Unit {
     let mut t = u;
     match field {
@@ -135,6 +140,7 @@ fn with_unit(u: Unit, field: usize, value: u32) -> Unit {
     t
 }
 
+// Another phase, number of points held or next slot.
 fn with_storage(s: Storage, field: usize, value: u32) -> Storage {
     let phase = s.phase;
     match field {
@@ -156,6 +162,7 @@ fn with_storage(s: Storage, field: usize, value: u32) -> Storage {
     }
 }
 
+// Another point for one of the traces.
 fn with_latest(p: Pair, field: usize, word: u32) -> Pair {
     let mut t = p;
     match field {
@@ -165,6 +172,7 @@ fn with_latest(p: Pair, field: usize, word: u32) -> Pair {
     t
 }
 
+// Another byte in an event register.
 fn with_registers(r: Registers, field: usize, byte: u8) -> Registers {
     let mut t = r;
     match field {
@@ -175,6 +183,7 @@ fn with_registers(r: Registers, field: usize, byte: u8) -> Registers {
     t
 }
 
+// Another byte of enables.
 fn with_enables(e: Enables, field: usize, byte: u8) -> Enables {
     let mut t = e;
     match field {
@@ -186,6 +195,7 @@ fn with_enables(e: Enables, field: usize, byte: u8) -> Enables {
     t
 }
 
+// Another external frequency or storage.
 fn with_moving(m: Moving, field: usize, value: u32) -> Moving {
     let mut t = m;
     match field {
@@ -209,6 +219,7 @@ fn with_number(s: State, field: usize, value: u32) -> State {
     t
 }
 
+// The state with another value at a setting's entry.
 fn with_setting(s: State, entry: usize, value: u32) -> State {
     let mut t = s;
     t.settings = settings::with_value(s.settings, entry, value);

@@ -27,7 +27,8 @@ pub fn phase_of(word: &[u8]) -> usize {
     terminal::place_of(&words, word)
 }
 
-// What stands before a value: a space, the name and `=`, no space before the first field; a comma between the parts of a list.
+// What stands before a value: a space, the name and `=`, no space before the first field; a comma between the parts of
+// a list.
 fn put_name(out: &mut [u8], at: usize, name: &[u8], field: usize) -> usize {
     let n = divide::span_of(name, b'.');
     if n + 1 < name.len() {
@@ -44,6 +45,7 @@ fn put_name(out: &mut [u8], at: usize, name: &[u8], field: usize) -> usize {
     put(out, end, b'=')
 }
 
+// A phase's word.
 fn put_phase(out: &mut [u8], at: usize, number: u32) -> usize {
     let words = PHASES;
     match number {
@@ -60,6 +62,7 @@ fn put_queue(out: &mut [u8], at: usize, q: Queue) -> usize {
     terminal::put_bytes(out, at, terminal::first_of(&bytes, q.len))
 }
 
+// A field's value.
 fn put_value(out: &mut [u8], at: usize, m: Module, field: usize) -> usize {
     let value = field::value_of(m, field);
     match kind_of(field) {
@@ -111,6 +114,7 @@ fn put_words(out: &mut [u8], at: usize, trace: &[u32]) -> usize {
     end
 }
 
+// A trace's words behind its name.
 fn put_trace(out: &mut [u8], at: usize, name: &[u8], trace: &[u32]) -> usize {
     if trace.len() == 0 {
         return put_all(out, at, name);

@@ -97,7 +97,8 @@ fn perform_within(
     perform_on(m, operation, bytes, &mut one[0..slots], &mut two[0..slots])
 }
 
-// The answer to the operation that a text asks for. The bytes that the operation brings are put at the start of a buffer.
+// The answer to the operation that a text asks for. The bytes that the operation brings are put at the start of a
+// buffer.
 fn take_text(d: Driven, text: &[u8], bytes: &mut [u8], one: &mut [u32], two: &mut [u32]) -> Driven {
     let operation = operations::operation_of(text, bytes);
     if let Operation::Start(serial, port, first, second) = operation {

@@ -7,7 +7,7 @@ use crate::module::state::State;
 use crate::module::storage::Phase;
 use crate::ops::field::{self, Field, Place, Value, FIELDS};
 use crate::ops::{Operation, Session};
-use crate::setting::{FMOD, FREQ, HARM, OFLT, SEND, VALUES};
+use crate::setting::{self, FMOD, FREQ, HARM, OFLT, SEND, VALUES};
 
 /// Fields that a rule reads together.
 const TOGETHER: &[&[Place]] = &[
@@ -31,6 +31,16 @@ const LENGTHS: &[usize] = &[0, 1, 2, 5, 16, 17, 255, 256, 257, 300];
 pub struct Change {
     pub there: Operation,
     pub back: Operation,
+}
+
+impl Change {
+    /// The query that shows a setting.
+    pub fn query(&self) -> Option<String> {
+        match self.there {
+            Operation::Alter { field: Field { place: Place::Entry(entry), .. }, .. } => Some(setting::query(entry)),
+            _ => None,
+        }
+    }
 }
 
 /// One to a few alterations.
@@ -73,7 +83,7 @@ fn value(generator: &mut Generator, field: &Field, state: &State) -> Value {
             let capacity = i64::from(state.capacity);
             generator.pick(&[capacity, capacity - 1, capacity + 1, 1, 16_383, 16_384, 0])
         }
-        Place::Entry(entry) => setting(generator, entry, state),
+        Place::Entry(entry) => units(generator, entry, state),
         Place::External => match generator.below(2) {
             0 => near::frequency(generator, state.settings.entries[HARM].max(1)),
             _ => settings::external(generator),
@@ -91,7 +101,7 @@ fn value(generator: &mut Generator, field: &Field, state: &State) -> Value {
     Value::Number(number.clamp(low, high))
 }
 
-fn setting(generator: &mut Generator, entry: usize, state: &State) -> i64 {
+fn units(generator: &mut Generator, entry: usize, state: &State) -> i64 {
     let reference = state.settings.reference();
     match (entry, generator.below(3)) {
         (FREQ, 0) => near::frequency(generator, reference.harmonic.max(1)),

@@ -47,10 +47,10 @@ impl Operations {
             720..=749 => next.push_back(raise(generator)),
             750..=779 => next.push_back(poke(generator, session)),
             780..=799 => next.push_back(Operation::Poll),
-            800..=824 => next.push_back(check(generator)),
-            825..=889 => next.extend(alter(generator, session)),
-            890..=894 => next.extend(alterations::to_another_state(generator, session)),
-            895..=914 => next.extend(read_back(generator, session)),
+            800..=834 => next.push_back(check(generator)),
+            835..=894 => next.extend(alter(generator, session)),
+            895..=898 => next.extend(alterations::to_another_state(generator, session)),
+            899..=918 => next.extend(read_back(generator, session)),
             _ => next.push_back(Operation::Dump),
         }
     }
@@ -276,7 +276,11 @@ fn read_back(generator: &mut Generator, session: &Session) -> Vec<Operation> {
 fn alter(generator: &mut Generator, session: &Session) -> Vec<Operation> {
     let changes = alterations::changes(generator, &session.state());
     let back: Vec<Operation> = changes.iter().rev().map(|change| change.back.clone()).collect();
+    let queries: Vec<String> = changes.iter().filter_map(alterations::Change::query).collect();
     let mut operations: Vec<Operation> = changes.into_iter().map(|change| change.there).collect();
+    if generator.chance(50) {
+        operations.push(Operation::Line { line: queries.join(";").into_bytes(), room: 64 });
+    }
     for _ in 0..1 + generator.below(6) {
         operations.push(call(generator, session));
     }

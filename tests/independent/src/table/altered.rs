@@ -1,12 +1,12 @@
 // The state altered field by field, to values just inside and just outside what a state may hold, from
 // several states; and after each alteration every call.
 
-use super::{alter, line, start, values};
+use super::{alter, line, start};
 use crate::frequency::{HERTZ, LEAST, LIMIT, SLOW_LIMIT};
 use crate::module::storage::Phase;
-use crate::ops::field::{Field, Place, Value, FIELDS};
+use crate::ops::field::{self, Field, Place, Value, FIELDS};
 use crate::ops::Operation;
-use crate::setting::{FMOD, FREQ, HARM, OFLT, SEND, VALUES};
+use crate::setting::{query, FMOD, FREQ, HARM, OFLT, SEND, VALUES};
 
 /// The capacity of the traces.
 const CAPACITY: usize = 4;
@@ -27,13 +27,22 @@ pub fn operations() -> Vec<Operation> {
             }
         }
     }
+    operations.extend(no_capacity());
     operations
+}
+
+/// Storage that holds none, is full and done in one shot: only the capacity's own range refuses it.
+fn no_capacity() -> Vec<Operation> {
+    let [one_shot, done] =
+        [alter(Place::Entry(SEND), Value::Number(0)), alter(Place::Phase, Value::Phase(Phase::Done))];
+    let none = alter(Place::Capacity, Value::Number(0));
+    [vec![start(CAPACITY), one_shot, done, none], calls(&field::at(Place::Capacity))].concat()
 }
 
 /// Every call, the polls and lines that show the field among them, and the state after them.
 fn calls(field: &Field) -> Vec<Operation> {
     let shows = match field.place {
-        Place::Entry(entry) => values::query(entry),
+        Place::Entry(entry) => query(entry),
         _ => "*IDN?;SPTS?;*STB?;*ESE?;*SRE?;LIAE?;ERRE?;*ESR?;LIAS?;ERRS?;FREQ?".to_string(),
     };
     vec![

@@ -5,7 +5,7 @@ use crate::frequency::{HERTZ, LEAST, LIMIT, SLOW_LIMIT};
 use crate::ops::field::{Place, Value};
 use crate::ops::Operation;
 use crate::point::Point;
-use crate::setting::{Settings, FMOD, FREQ, HARM, OFLT, SETTINGS, VALUES};
+use crate::setting::{query, Settings, FMOD, FREQ, HARM, OFLT, VALUES};
 
 /// The entries with decimals, besides FREQ.
 const PHAS: usize = 0;
@@ -18,23 +18,6 @@ const MOST_FREQUENCY: i64 = 2_000_000_000;
 
 pub fn operations() -> Vec<Operation> {
     [replies(), single_settings(), combined_settings(), detections(), crossings(), points()].concat()
-}
-
-/// The query that replies with an entry.
-pub fn query(entry: usize) -> String {
-    let mut first = 0;
-    for setting in &SETTINGS {
-        let count = setting.entries();
-        if entry < first + count {
-            let channel = (entry - first) / setting.values.len() + 1;
-            return match setting.channels {
-                0 => format!("{}?", setting.name),
-                _ => format!("{}?{channel}", setting.name),
-            };
-        }
-        first += count;
-    }
-    unreachable!("entry {entry}")
 }
 
 fn setting(entry: usize, units: i64) -> Operation {
