@@ -9,6 +9,7 @@ use Rattle.number.specs.Value.{exactOf, argumentOf}
 use Rattle.number.specs.declared.Range.{Range}
 use Rattle.number.specs.declared.Argument.{Argument}
 use Rattle.number.specs.declared.Argument.the-variants as argument
+use Rattle.settings.specs.Limits.{capacityLeast, capacityMost}
 use Rattle.settings.specs.Setting.{settingOf}
 use Rattle.refusal.specs.declared.Refusal.the-variants.{Malformed, OutOfRange}
 use Rattle.name.specs.Names.{meaningOf}
@@ -102,7 +103,7 @@ queryStatus r (i ∷ more) = one (λ i. with (wholeOf 0 7 i) λ b. taken (Query 
 -- "TRCL? i,j,k", "i is 1-2, j 0-16383, k 1-16383"
 unfoldable pub queryTrace : Form → List (List ℕ) → Parsed
 queryTrace form =
-    three λ i j k. with (wholeOf 1 2 i) λ t. with (wholeOf 0 16383 j) λ b. with (wholeOf 1 16383 k) λ n. taken (Query (query.Trace form t b n))
+    three λ i j k. with (wholeOf 1 2 i) λ t. with (wholeOf 0 capacityMost j) λ b. with (wholeOf capacityLeast capacityMost k) λ n. taken (Query (query.Trace form t b n))
 
 -- no argument
 unfoldable pub alone : Kind → List (List ℕ) → Parsed

@@ -9,6 +9,7 @@ use Rattle.number.specs.declared.Quantity.{Quantity}
 use Rattle.number.specs.declared.Reading.{Reading}
 use Rattle.number.specs.declared.Reading.the-variants.{NotNumber}
 use Rattle.number.specs.declared.Argument.{Argument}
+use Rattle.settings.specs.Limits.{capacityLeast, capacityMost}
 use Rattle.settings.specs.Setting.{valueTaken}
 use Rattle.name.specs.declared.Register.{Register}
 use Rattle.name.specs.declared.Form.{Form}
@@ -77,4 +78,4 @@ unfoldable pub statusBitAsked : Register → Quantity → Parsed
 statusBitAsked r i = with (whole 0 7 i) λ b. taken (Query (query.StatusBit r b))
 
 unfoldable pub traceAsked : Form → Quantity → Quantity → Quantity → Parsed
-traceAsked form i j k = with (whole 1 2 i) λ t. with (whole 0 16383 j) λ b. with (whole 1 16383 k) λ n. taken (Query (query.Trace form t b n))
+traceAsked form i j k = with (whole 1 2 i) λ t. with (whole 0 capacityMost j) λ b. with (whole capacityLeast capacityMost k) λ n. taken (Query (query.Trace form t b n))

@@ -16,6 +16,7 @@ use number::Quantity;
 use number::Range;
 use number::Reading;
 use refusal::Refusal;
+use settings::Settings;
 
 // The arguments of a set. A setting is told by its entry in the settings table, its value as it is kept.
 pub enum SetArgument {
@@ -284,10 +285,10 @@ fn ask_trace(form: Form, i: Quantity, j: Quantity, k: Quantity) -> Parsed
     let Argument::Value(trace) = whole_of(i, 1, 2) else {
         return Parsed::Refused(Refusal::OutOfRange);
     };
-    let Argument::Value(bin) = whole_of(j, 0, settings::CAPACITY_MOST) else {
+    let Argument::Value(bin) = whole_of(j, 0, Settings::CAPACITY_MOST) else {
         return Parsed::Refused(Refusal::OutOfRange);
     };
-    let Argument::Value(count) = whole_of(k, settings::CAPACITY_LEAST, settings::CAPACITY_MOST)
+    let Argument::Value(count) = whole_of(k, Settings::CAPACITY_LEAST, Settings::CAPACITY_MOST)
     else {
         return Parsed::Refused(Refusal::OutOfRange);
     };
