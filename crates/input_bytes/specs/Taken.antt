@@ -24,7 +24,8 @@ startInput = record { ended = false; capacity = 0; len = 0 }
 
 -- "the capacity, digits only": a number past every capacity stays, and what is no digit makes one
 unfoldable pub capacityAfter : ℕ → ℕ → ℕ
-capacityAfter b capacity = cond (ltb capacityMost capacity) capacity (cond (isDigit b) (capacity * 10 + (b - 48)) (capacityMost + 1))
+capacityAfter b capacity =
+    cond (ltb capacityMost capacity) capacity (cond (isDigit b) (capacity * 10 + (b - 48)) (capacityMost + 1))
 
 unfoldable pub lineOneAfter : ℕ → Input → Input
 lineOneAfter b i =

@@ -26,7 +26,8 @@ freshModule u = record { state = startState u; queue = emptyQueue }
 
 -- "a start refused by 10 or 9 gives serial 0, GPIB, capacity 1"
 abbrev pub refusedStart : Refusal → Started
-refusedStart r = record { after = freshModule (record { serial = 0; port = gpib; capacity = capacityLeast }); outcome = Refused r }
+refusedStart r =
+    record { after = freshModule (record { serial = 0; port = gpib; capacity = capacityLeast }); outcome = Refused r }
 
 -- "Order: 10, .., 9"; the traces are not written
 unfoldable pub startOf : ℕ → ℕ → ℕ → ℕ → Started

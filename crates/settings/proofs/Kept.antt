@@ -36,7 +36,8 @@ record Decade (s low high : ℕ) : Type 0 where
   most : high ≤ frequencyHigh
   inner : (y : ℕ) → low ≤ y → y < high → frequencyStep y ≡ s
 
-decade-of : {s low high : ℕ} → 1 ≤ s → low % s ≡ 0 → high % s ≡ 0 → high % frequencyStep high ≡ 0 → (frequencyLow ≤ low) × (high ≤ frequencyHigh) →
+decade-of : {s low high : ℕ} → 1 ≤ s → low % s ≡ 0 → high % s ≡ 0 → high % frequencyStep high ≡ 0 →
+    (frequencyLow ≤ low) × (high ≤ frequencyHigh) →
     ((y : ℕ) → low ≤ y → y < high → frequencyStep y ≡ s) → Decade s low high
 decade-of {s} p l h top ends inner =
     record {

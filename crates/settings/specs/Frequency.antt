@@ -2,7 +2,8 @@
 use Prim.Native.Nat.{ℕ, _+_, _*_}
 use mathlib.Core.Bool.{Bool, cond, not, _&&_, _||_}
 use lib.Dec.{leb, ltb, eqb}
-use Rattle.settings.specs.Limits.{frequencyLow, frequencyHigh, frequencyStart, detectionLimit, longLimit, longestAbove}
+use Rattle.settings.specs.Limits.{frequencyLow, frequencyHigh, frequencyStart}
+use Rattle.settings.specs.Limits.{detectionLimit, longLimit, longestAbove}
 pub use Rattle.settings.specs.Limits.{hertz}
 use Rattle.settings.specs.Table.{fmod, freq, harm, valueOf}
 use Rattle.settings.specs.declared.Settings.{Settings}
