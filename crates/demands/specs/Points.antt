@@ -20,11 +20,12 @@ use Rattle.name.specs.declared.Form.{Form}
 use Rattle.name.specs.declared.Form.the-variants.{Words, Floats}
 use Rattle.name.specs.declared.Action.{Action}
 use Rattle.name.specs.declared.Action.the-variants as action
-use Rattle.command.specs.Parsed.{parsedOf}
+use Rattle.command.specs.Parsed.{traces, parsedOf}
 use Rattle.command.specs.declared.Kind.{Kind}
 use Rattle.command.specs.declared.Kind.the-variants.{Set, Query, Act}
 use Rattle.command.specs.declared.Parsed.{Parsed}
 use Rattle.command.specs.declared.Parsed.the-variants as parsed
+use Rattle.settings.specs.Limits.{capacityMost}
 use Rattle.settings.specs.Table.{send, valueOf}
 use Rattle.storage.specs.Storage.{oneShot, tickStores, triggerStores}
 use Rattle.state.specs.State.{samplingOf}
@@ -232,11 +233,12 @@ pub record PointsReplied (history : History) (m : Module) (one two : List ℕ) :
   pub points : (room : ℕ) →
       let out = plain (heldCount history m) ++ (endOf (m .state .unit .port) ∷ []) in
       length out ≤ room → lineCall room (bytes "SPTS?") m one two ≡ answered out m one two
-  pub trace : (room : ℕ) (form : Form) (t bin count : ℕ) → 1 ≤ t → t ≤ 2 → 1 ≤ count →
+  pub trace : (room : ℕ) (form : Form) (t bin count : ℕ) → 1 ≤ t → t ≤ traces → 1 ≤ count →
       bin + count ≤ heldCount history m →
       let out = sentOf form t (take count (drop bin (heldOf (m .state .unit .capacity) history))) in
       length out ≤ room → lineCall room (traceQuery form t bin count) m one two ≡ answered out m one two
-  pub beyond : (room : ℕ) (form : Form) (t bin count : ℕ) → 1 ≤ t → t ≤ 2 → bin ≤ 16383 → 1 ≤ count → count ≤ 16383 →
+  pub beyond : (room : ℕ) (form : Form) (t bin count : ℕ) → 1 ≤ t → t ≤ traces → bin ≤ capacityMost → 1 ≤ count →
+      count ≤ capacityMost →
       heldCount history m < bin + count →
       lineCall room (traceQuery form t bin count) m one two .told .answer ≡ answer.Refused NotAllowed 1
 

@@ -1,17 +1,19 @@
 // The operations of docs/ops-protocol.md: what the fields of each ask for.
 ghost use mathlib.Core.Path.{_≡_};
-ghost use Prim.Native.Nat.{_<_};
+ghost use Prim.Native.Nat.{_+_, _<_};
 ghost use lib.ListN.{length};
+ghost use Rattle.settings.specs.Limits.{capacityMost};
 
 mod alter;
 
 use event::Event;
+use settings::Settings;
 use terminal::Decoded;
 use terminal::Number;
 
-// The longest trace; the largest reply buffer, one that is enough for most, and what each of their bytes is before the call; the largest byte; how many
-// traces there are.
-pub const SLOTS: u32 = 16384;
+// The longest trace, a point longer than a module's may be; the largest reply buffer, one that is enough for most, and
+// what each of their bytes is before the call; the largest byte; how many traces there are.
+pub const SLOTS: u32 = Settings::CAPACITY_MOST + 1;
 
 pub const ROOM: u32 = 131072;
 
@@ -59,7 +61,7 @@ pub fn small_reply_buffer() -> [u8; SMALL_ROOM] {
 }
 
 pub fn trace_buffer() -> [u32; SLOTS as usize]
-    ensures { λ r. ⌜ 16384 ≡ length r ⌝ }
+    ensures { λ r. ⌜ capacityMost + 1 ≡ length r ⌝ }
 {
     [0u32; SLOTS as usize]
 }

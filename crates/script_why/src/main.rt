@@ -7,9 +7,10 @@ mod operation;
 
 use course::Course;
 use refusal::Refusal;
+use settings::Settings;
 use verdict::Verdict;
 
-const SLOTS: usize = settings::CAPACITY_MOST as usize;
+const SLOTS: usize = Settings::CAPACITY_MOST as usize;
 
 // Room for every line's reply: a line of 256 bytes has at most 17 trace reads, of 65,532 bytes each.
 const ROOM: usize = 1114112;
