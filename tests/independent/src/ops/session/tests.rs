@@ -332,3 +332,37 @@ fn the_module_before_any_start_and_after_a_refused_one() {
     assert_eq!(session.answer(b""), None);
     assert_eq!(session.answer(b"dump ").unwrap(), "?");
 }
+
+#[test]
+fn an_altered_state_is_tested_by_each_call() {
+    let mut desk = Desk::gpib();
+    assert_eq!(desk.does("alter harm 0"), "K");
+    for (call, answer) in [
+        ("line 41 2", "A 11 0 0 aaaa"),
+        ("byte 41 0 1", "A 11 0 0 aa"),
+        ("pair 00000000 00000000", "A 11"),
+        ("pair ffffffff 00000000", "A 11"),
+        ("tick", "A 11"),
+        ("trigger", "A 11"),
+        ("measured 1", "A 11"),
+        ("raise 255 255", "A 11"),
+        ("poll", "P 11 0"),
+    ] {
+        assert_eq!(desk.does(call), answer, "{call}");
+    }
+    assert_eq!((desk.field("harm"), desk.field("esr")), ("0".into(), "128".into()));
+    assert_eq!(desk.does("alter harm 1"), "K");
+    assert_eq!(desk.does("tick"), "A 0");
+}
+
+#[test]
+fn traces_of_another_capacity_are_refused_by_9_after_11() {
+    let mut desk = Desk::gpib();
+    for (capacity, tick, poll) in
+        [(7, "A 9", "P 0 3"), (0, "A 11", "P 11 0"), (16_384, "A 11", "P 11 0"), (8, "A 0", "P 0 3")]
+    {
+        desk.does(&format!("alter cap {capacity}"));
+        assert_eq!((desk.does("tick").as_str(), desk.does("poll").as_str()), (tick, poll), "{capacity}");
+        assert_eq!(desk.field("t1").len(), 8 * 9 - 1);
+    }
+}
