@@ -22,6 +22,11 @@ pub fn refuse() {
     terminal::flush(b"?\n", 2);
 }
 
+// The answer to a change that is no call.
+pub fn acknowledge() {
+    terminal::flush(b"K\n", 2);
+}
+
 pub fn wrong(m: Module) -> Module {
     refuse();
     m
@@ -108,7 +113,7 @@ pub fn happen(m: Module, e: Event, one: &mut [u32], two: &mut [u32]) -> Module {
 
 // A word for a slot of trace 1 or 2, where it is there.
 pub fn poke(trace: u32, slot: usize, word: u32, one: &mut [u32], two: &mut [u32]) {
-    terminal::flush(b"K\n", 2);
+    acknowledge();
     if trace == 1 {
         if slot < one.len() {
             one[slot] = word;

@@ -105,7 +105,7 @@ fn external_by(external: u32, a: Action) -> u32
     ensures { λ r. ⌜ r ≡ externalBy a external ⌝ }
 {
     if is_reset(a) {
-        return settings::FREQUENCY_START;
+        return Settings::FREQUENCY_START;
     }
     external
 }

@@ -6,6 +6,10 @@ use lib.Dec.{ltb, eqb}
 use lib.ListN.{take}
 use Rattle.clean.specs.declared.Cleaned.{Cleaned}
 
+-- "A line has at most 256 bytes before its end"
+abbrev pub lineLimit : ℕ
+lineLimit = 256
+
 -- "space and CR are dropped wherever they stand"
 abbrev pub isDropped : ℕ → Bool
 isDropped b = eqb b 32 || eqb b 13

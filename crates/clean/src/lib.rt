@@ -2,7 +2,7 @@
 ghost use mathlib.Core.Path.{_≡_};
 ghost use Prim.Native.Nat.{_≤_};
 ghost use lib.ListN.{take};
-ghost use Rattle.clean.specs.Clean.{isDropped, capital, cleaned, shown};
+ghost use Rattle.clean.specs.Clean.{lineLimit, isDropped, capital, cleaned, shown};
 
 // The most bytes that a line has before its end.
 pub const LINE: usize = 256;
@@ -34,9 +34,9 @@ fn capital_of(b: u8) -> u8
     b - 32
 }
 
-// The line's bytes that count, of which a lawful line has at most 256.
+// The line's bytes that count, of which a lawful line has at most LINE.
 pub fn clean(line: &[u8]) -> Cleaned
-    ensures { λ r. ⌜ (shown r ≡ take 256 (cleaned (now (line .entry)))) × (r .len ≤ 256) ⌝ }
+    ensures { λ r. ⌜ (shown r ≡ take lineLimit (cleaned (now (line .entry)))) × (r .len ≤ lineLimit) ⌝ }
 {
     let mut bytes = [0u8; LINE];
     let mut len = 0;

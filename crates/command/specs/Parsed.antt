@@ -9,6 +9,7 @@ use Rattle.number.specs.Value.{exactOf, argumentOf}
 use Rattle.number.specs.declared.Range.{Range}
 use Rattle.number.specs.declared.Argument.{Argument}
 use Rattle.number.specs.declared.Argument.the-variants as argument
+use Rattle.settings.specs.Limits.{capacityLeast, capacityMost}
 use Rattle.settings.specs.Setting.{settingOf}
 use Rattle.refusal.specs.declared.Refusal.the-variants.{Malformed, OutOfRange}
 use Rattle.name.specs.Names.{meaningOf}
@@ -62,6 +63,16 @@ wholeRange low high = record { bias = 0; low = low; high = high; step = 1; whole
 abbrev pub wholeOf : ℕ → ℕ → List ℕ → Argument
 wholeOf low high a = argumentOf (wholeRange low high) (exactOf 0 a)
 
+-- the highest bit of a register, the highest value of one, and how many traces there are
+abbrev pub bitMost : ℕ
+bitMost = 7
+
+abbrev pub registerMost : ℕ
+registerMost = 255
+
+abbrev pub traces : ℕ
+traces = 2
+
 -- a setting without channels: "PHAS x", "FMOD i" ..
 unfoldable pub setSetting : ℕ → List (List ℕ) → Parsed
 setSetting entry = one λ x. with (settingOf entry x) λ v. taken (Set (set.Value entry v))
@@ -79,8 +90,9 @@ setChannelPair base channels =
 -- "*ESE, *SRE, LIAE and ERRE take one value 0-255, or bit 0-7 and 0 or 1"
 unfoldable pub setEnable : Register → List (List ℕ) → Parsed
 setEnable r [] = malformed
-setEnable r (v ∷ []) = one (λ v. with (wholeOf 0 255 v) λ x. taken (Set (set.Enable r x))) (v ∷ [])
-setEnable r (i ∷ v ∷ more) = two (λ i v. with (wholeOf 0 7 i) λ b. with (wholeOf 0 1 v) λ x. taken (Set (set.EnableBit r b x))) (i ∷ v ∷ more)
+setEnable r (v ∷ []) = one (λ v. with (wholeOf 0 registerMost v) λ x. taken (Set (set.Enable r x))) (v ∷ [])
+setEnable r (i ∷ v ∷ more) =
+    two (λ i v. with (wholeOf 0 bitMost i) λ b. with (wholeOf 0 1 v) λ x. taken (Set (set.EnableBit r b x))) (i ∷ v ∷ more)
 
 -- "Where i picks a channel the query takes only i"
 unfoldable pub queryChannel : ℕ → ℕ → List (List ℕ) → Parsed
@@ -92,17 +104,18 @@ queryChannelPair base channels = one λ i. with (wholeOf 1 channels i) λ n. tak
 -- "queries take nothing or a bit"
 unfoldable pub queryEnable : Register → List (List ℕ) → Parsed
 queryEnable r [] = taken (Query (query.Enable r))
-queryEnable r (i ∷ more) = one (λ i. with (wholeOf 0 7 i) λ b. taken (Query (query.EnableBit r b))) (i ∷ more)
+queryEnable r (i ∷ more) = one (λ i. with (wholeOf 0 bitMost i) λ b. taken (Query (query.EnableBit r b))) (i ∷ more)
 
 -- "*ESR?, LIAS? and ERRS? ..; with an argument i (0-7) only bit i", "*STB? takes nothing or a bit"
 unfoldable pub queryStatus : Register → List (List ℕ) → Parsed
 queryStatus r [] = taken (Query (query.Status r))
-queryStatus r (i ∷ more) = one (λ i. with (wholeOf 0 7 i) λ b. taken (Query (query.StatusBit r b))) (i ∷ more)
+queryStatus r (i ∷ more) = one (λ i. with (wholeOf 0 bitMost i) λ b. taken (Query (query.StatusBit r b))) (i ∷ more)
 
 -- "TRCL? i,j,k", "i is 1-2, j 0-16383, k 1-16383"
 unfoldable pub queryTrace : Form → List (List ℕ) → Parsed
 queryTrace form =
-    three λ i j k. with (wholeOf 1 2 i) λ t. with (wholeOf 0 16383 j) λ b. with (wholeOf 1 16383 k) λ n. taken (Query (query.Trace form t b n))
+    three λ i j k. with (wholeOf 1 traces i) λ t. with (wholeOf 0 capacityMost j) λ b.
+    with (wholeOf capacityLeast capacityMost k) λ n. taken (Query (query.Trace form t b n))
 
 -- no argument
 unfoldable pub alone : Kind → List (List ℕ) → Parsed

@@ -9,10 +9,11 @@ use Rattle.number.specs.declared.Quantity.{Quantity}
 use Rattle.number.specs.declared.Reading.{Reading}
 use Rattle.number.specs.declared.Reading.the-variants.{NotNumber}
 use Rattle.number.specs.declared.Argument.{Argument}
+use Rattle.settings.specs.Limits.{capacityLeast, capacityMost}
 use Rattle.settings.specs.Setting.{valueTaken}
 use Rattle.name.specs.declared.Register.{Register}
 use Rattle.name.specs.declared.Form.{Form}
-use Rattle.command.specs.Parsed.{taken, with, wholeRange}
+use Rattle.command.specs.Parsed.{taken, with, wholeRange, bitMost, registerMost, traces}
 use Rattle.command.specs.declared.SetArgument.the-variants as set
 use Rattle.command.specs.declared.QueryArgument.the-variants as query
 use Rattle.command.specs.declared.Kind.the-variants.{Set, Query}
@@ -59,10 +60,10 @@ pairTaken base channels i x y =
     with (whole 1 channels i) λ n. with (valueTaken base x) λ v. with (valueTaken (base + 1) y) λ w. taken (Set (set.Pair (base + 2 * (n - 1)) v w))
 
 unfoldable pub enableTaken : Register → Quantity → Parsed
-enableTaken r v = with (whole 0 255 v) λ x. taken (Set (set.Enable r x))
+enableTaken r v = with (whole 0 registerMost v) λ x. taken (Set (set.Enable r x))
 
 unfoldable pub enableBitTaken : Register → Quantity → Quantity → Parsed
-enableBitTaken r i v = with (whole 0 7 i) λ b. with (whole 0 1 v) λ x. taken (Set (set.EnableBit r b x))
+enableBitTaken r i v = with (whole 0 bitMost i) λ b. with (whole 0 1 v) λ x. taken (Set (set.EnableBit r b x))
 
 unfoldable pub channelAsked : ℕ → ℕ → Quantity → Parsed
 channelAsked base channels i = with (whole 1 channels i) λ n. taken (Query (query.Value (base + (n - 1))))
@@ -71,10 +72,12 @@ unfoldable pub pairAsked : ℕ → ℕ → Quantity → Parsed
 pairAsked base channels i = with (whole 1 channels i) λ n. taken (Query (query.Pair (base + 2 * (n - 1))))
 
 unfoldable pub enableBitAsked : Register → Quantity → Parsed
-enableBitAsked r i = with (whole 0 7 i) λ b. taken (Query (query.EnableBit r b))
+enableBitAsked r i = with (whole 0 bitMost i) λ b. taken (Query (query.EnableBit r b))
 
 unfoldable pub statusBitAsked : Register → Quantity → Parsed
-statusBitAsked r i = with (whole 0 7 i) λ b. taken (Query (query.StatusBit r b))
+statusBitAsked r i = with (whole 0 bitMost i) λ b. taken (Query (query.StatusBit r b))
 
 unfoldable pub traceAsked : Form → Quantity → Quantity → Quantity → Parsed
-traceAsked form i j k = with (whole 1 2 i) λ t. with (whole 0 16383 j) λ b. with (whole 1 16383 k) λ n. taken (Query (query.Trace form t b n))
+traceAsked form i j k =
+    with (whole 1 traces i) λ t. with (whole 0 capacityMost j) λ b. with (whole capacityLeast capacityMost k) λ n.
+    taken (Query (query.Trace form t b n))

@@ -16,6 +16,14 @@ use number::Quantity;
 use number::Range;
 use number::Reading;
 use refusal::Refusal;
+use settings::Settings;
+
+// The highest bit of a register, the highest value of one, and how many traces there are.
+const BIT_MOST: u32 = 7;
+
+const REGISTER_MOST: u32 = 255;
+
+const TRACES: u32 = 2;
 
 // The arguments of a set. A setting is told by its entry in the settings table, its value as it is kept.
 pub enum SetArgument {
@@ -224,7 +232,7 @@ fn take_pair(base: u8, channels: u8, i: Quantity, x: Quantity, y: Quantity) -> P
 fn take_enable(register: Register, v: Quantity) -> Parsed
     ensures { λ r. ⌜ r ≡ enableTaken register v ⌝ }
 {
-    let Argument::Value(value) = whole_of(v, 0, 255) else {
+    let Argument::Value(value) = whole_of(v, 0, REGISTER_MOST) else {
         return Parsed::Refused(Refusal::OutOfRange);
     };
     taken_as(Kind::Set(SetArgument::Enable(register, value)))
@@ -233,7 +241,7 @@ fn take_enable(register: Register, v: Quantity) -> Parsed
 fn take_enable_bit(register: Register, i: Quantity, v: Quantity) -> Parsed
     ensures { λ r. ⌜ r ≡ enableBitTaken register i v ⌝ }
 {
-    let Argument::Value(bit) = whole_of(i, 0, 7) else {
+    let Argument::Value(bit) = whole_of(i, 0, BIT_MOST) else {
         return Parsed::Refused(Refusal::OutOfRange);
     };
     let Argument::Value(value) = whole_of(v, 0, 1) else {
@@ -263,7 +271,7 @@ fn ask_pair(base: u8, channels: u8, i: Quantity) -> Parsed
 fn ask_enable_bit(register: Register, i: Quantity) -> Parsed
     ensures { λ r. ⌜ r ≡ enableBitAsked register i ⌝ }
 {
-    let Argument::Value(bit) = whole_of(i, 0, 7) else {
+    let Argument::Value(bit) = whole_of(i, 0, BIT_MOST) else {
         return Parsed::Refused(Refusal::OutOfRange);
     };
     taken_as(Kind::Query(QueryArgument::EnableBit(register, bit)))
@@ -272,7 +280,7 @@ fn ask_enable_bit(register: Register, i: Quantity) -> Parsed
 fn ask_status_bit(register: Register, i: Quantity) -> Parsed
     ensures { λ r. ⌜ r ≡ statusBitAsked register i ⌝ }
 {
-    let Argument::Value(bit) = whole_of(i, 0, 7) else {
+    let Argument::Value(bit) = whole_of(i, 0, BIT_MOST) else {
         return Parsed::Refused(Refusal::OutOfRange);
     };
     taken_as(Kind::Query(QueryArgument::StatusBit(register, bit)))
@@ -281,13 +289,13 @@ fn ask_status_bit(register: Register, i: Quantity) -> Parsed
 fn ask_trace(form: Form, i: Quantity, j: Quantity, k: Quantity) -> Parsed
     ensures { λ r. ⌜ r ≡ traceAsked form i j k ⌝ }
 {
-    let Argument::Value(trace) = whole_of(i, 1, 2) else {
+    let Argument::Value(trace) = whole_of(i, 1, TRACES) else {
         return Parsed::Refused(Refusal::OutOfRange);
     };
-    let Argument::Value(bin) = whole_of(j, 0, settings::CAPACITY_MOST) else {
+    let Argument::Value(bin) = whole_of(j, 0, Settings::CAPACITY_MOST) else {
         return Parsed::Refused(Refusal::OutOfRange);
     };
-    let Argument::Value(count) = whole_of(k, settings::CAPACITY_LEAST, settings::CAPACITY_MOST)
+    let Argument::Value(count) = whole_of(k, Settings::CAPACITY_LEAST, Settings::CAPACITY_MOST)
     else {
         return Parsed::Refused(Refusal::OutOfRange);
     };

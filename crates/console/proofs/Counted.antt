@@ -20,26 +20,12 @@ use Rattle.clean.proofs.Bound.{cleaned-length}
 use Rattle.two_courses.specs.Courses.{gapOf, textRefusal, textAfter, startBoth}
 use Rattle.two_courses.specs.declared.Both.{Both}
 use Rattle.script.specs.Check.{answerAt, textsAnswer, textsAfter, tooLong, verdictOf, linesVerdict, withoutLast, linesOf, capacityFits, checkOf}
+use Rattle.script.proofs.Parts.{parts-length}
 use Rattle.verdict.specs.declared.Verdict.{Verdict}
 use Rattle.verdict.specs.declared.Verdict.the-variants.{Fine, No}
 use Rattle.verdict.specs.Number.{lineMost, placeMost}
 
--- ---- how many parts there are
-
-head-length : (b : ℕ) (ps : List (List ℕ)) → length (onHead b ps) ≤ suc (length ps)
-unfolding onHead
-head-length b [] = omega arith
-head-length b (p ∷ ps) = omega arith
-
--- at most one part more than there are bytes
-parts-length : (sep : ℕ) (s : List ℕ) → length (parts sep s) ≤ suc (length s)
-unfolding parts
-parts-length sep [] = omega arith
-parts-length sep (b ∷ bs) = by (eqb b sep) (parts-length sep bs) (head-length b (parts sep bs)) where
-  by : (t : Bool) → length (parts sep bs) ≤ suc (length bs) → length (onHead b (parts sep bs)) ≤ suc (length (parts sep bs))
-      → length (cond t ([] ∷ parts sep bs) (onHead b (parts sep bs))) ≤ suc (suc (length bs))
-  by true h g = omega arith
-  by false h g = omega arith
+-- ---- how many lines there are
 
 -- a byte more gives at most one line more
 ended-length : (ps : List (List ℕ)) → length (withoutLast ([] ∷ ps)) ≤ suc (length (withoutLast ps))

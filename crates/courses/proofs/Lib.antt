@@ -4,9 +4,11 @@ pub mod Storages
 pub mod Between
 pub mod Gap
 pub mod Found
+pub mod Fresh
 pub mod Commands
 pub mod Sound
 pub mod Witness
+pub mod Sized
 pub mod Rooms
 pub mod Reached
 pub mod Long

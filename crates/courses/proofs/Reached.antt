@@ -1,43 +1,33 @@
 -- A course that is refused where the check stops.
 use Prim.Native.Nat.{ℕ, zero, suc}
-use mathlib.Core.Bool.{Bool, true, false, cond, and-eq-true-iff}
+use native.Mathlib.Omega.{arith}
+use mathlib.Core.Bool.{Bool, true, false, cond}
 use mathlib.Core.Path.{_≡_, refl, sym, _∙_}
 use mathlib.Core.Logic.{_≢_}
 use mathlib.Core.List.{List, [], _∷_}
 use Rattle.refusal.specs.declared.Refusal.{Refusal}
-use Rattle.refusal.specs.declared.Refusal.the-variants.{NoReset, LongScriptLine, BadState}
-use Rattle.refusal.specs.declared.Outcome.{Outcome}
-use Rattle.refusal.specs.declared.Outcome.the-variants as outcome
+use Rattle.refusal.specs.declared.Refusal.the-variants.{NoReset, LongScriptLine}
 use Rattle.settings.specs.Allowed.{keepsAll}
-use Rattle.state.specs.Allowed.{allowedState}
 use Rattle.event.specs.Event.{eventOf}
 use Rattle.event.specs.declared.Event.the-variants.{Trigger, Measured}
 use Rattle.event.proofs.Crossed.{sound}
 use Rattle.line.specs.Line.{startLine, lineOf}
 use Rattle.clean.specs.Texts.{textsOf}
 use Rattle.refusal.specs.declared.Answer.the-variants.{Passed, Refused}
-use Rattle.module.specs.Module.{allowedModule, guardOf}
 use Rattle.two_courses.specs.Courses.{gapOf, measuredHigh}
 use Rattle.two_courses.specs.declared.Both.{Both}
 use Rattle.script.specs.Check.{textsAnswer, textsAfter, tooLong}
-use Rattle.courses.specs.Course.{World, lineIn, afterLine, afterEvent, afterEvents, Gap, Gaps, after, crowded, Roomy, answerOf}
+use Rattle.courses.specs.Course.{World, lineIn, afterLine, afterEvent, afterEvents, Gap, Gaps, GapsFit, crowded, Roomy, answerOf}
 use Rattle.courses.proofs.Alike.{Alike}
 use Rattle.courses.proofs.Found as found
-use Rattle.courses.proofs.Found.{stop, lineAnswer, not-passed, not-done, found-here, found-later, end-stop}
-use Rattle.courses.proofs.Sound.{Open, line-open, event-open, event-is, line-short, events-open}
-use Rattle.courses.proofs.Witness.{Side, low, high, At, at-run, run-refuses, highest, eventsOf, measured-at, triggered-at}
-use Rattle.courses.proofs.Rooms.{roomFor, room-enough}
-
-open-allowed : (w : World) → Open w → allowedModule (w .core) ≡ true
-unfolding guardOf
-open-allowed w = by (allowedModule (w .core)) _ where
-  by : (t : Bool) (o : Outcome) → cond t o (outcome.Refused BadState) ≡ outcome.Done → t ≡ true
-  by true o e = refl
-  by false o e = not-done BadState e
+use Rattle.courses.proofs.Found.{stop, lineAnswer, not-passed, found-here, found-later, end-stop}
+use Rattle.courses.proofs.Sound.{Open, open-allowed, line-open, event-open, event-is, line-short, events-open}
+use Rattle.courses.proofs.Witness.{Side, low, high, At, at-run, run-refuses, highest, eventsOf, events-fit, measured-at, triggered-at}
+use Rattle.courses.proofs.Sized.{Sized, measured-sized, trigger-sized}
+use Rattle.courses.proofs.Rooms.{enough, room-enough, line-sized}
 
 open-kept : (w : World) → Open w → keepsAll (w .core .state .settings) ≡ true
-unfolding allowedModule
-open-kept w o = sound (w .core .state) (and-eq-true-iff (allowedState (w .core .state)) _ .0 (open-allowed w o) .0) .values
+open-kept w o = sound (w .core .state) (open-allowed w o) .values
 
 -- ---- before a line
 
@@ -101,37 +91,63 @@ module _ (capacity : ℕ) (b : Both) (l : List ℕ) where
 
 -- ---- a whole course of that side
 
-abbrev gapFor : Side → Both → List ℕ → World → Gap
-gapFor d b l w = record { events = eventsOf d b; room = roomFor l (afterEvents (eventsOf d b) w) }
+events-sized : (d : Side) (b : Both) (w : World) → Open w → Sized (w .core .state)
+    → Sized (afterEvents (eventsOf d b) w .core .state)
+unfolding eventsOf afterEvents
+events-sized low b w o k = k
+events-sized high b w o k =
+    let m = Measured (highest (b .settings)) in
+    let v = afterEvent m w in
+    let f = highest (b .settings) in
+    let n : Sized (v .core .state) = rw (event-is w o m) (measured-sized f (w .core .state) (w .one) (w .two) k) in
+    rw (event-is v (event-open w o m) Trigger) (trigger-sized (v .core .state) (v .one) (v .two) n)
 
-pub gapsFor : Side → ℕ → (ls : List (List ℕ)) → Both → World → Gaps ls
-gapsFor d capacity [] b w = tt
-gapsFor d capacity (l ∷ ls) b w = (gapFor d b l w, gapsFor d capacity ls (found.afterLine capacity l b) (after (gapFor d b l w) l w))
+abbrev gapFor : Side → Both → Gap
+gapFor d b = record { events = eventsOf d b; room = enough }
 
-pub gaps-roomy : (d : Side) (capacity : ℕ) (ls : List (List ℕ)) (b : Both) (w : World) → Roomy ls (gapsFor d capacity ls b w) w
+pub gapsFor : Side → ℕ → (ls : List (List ℕ)) → Both → Gaps ls
+gapsFor d capacity [] b = tt
+gapsFor d capacity (l ∷ ls) b = (gapFor d b, gapsFor d capacity ls (found.afterLine capacity l b))
+
+pub gaps-roomy : (d : Side) (capacity : ℕ) (ls : List (List ℕ)) (b : Both) (w : World) → Open w → Sized (w .core .state)
+    → Roomy ls (gapsFor d capacity ls b) w
 unfolding gapsFor
-gaps-roomy d capacity [] b w = tt
-gaps-roomy d capacity (l ∷ ls) b w =
-    (room-enough l (afterEvents (eventsOf d b) w), gaps-roomy d capacity ls (found.afterLine capacity l b) (after (gapFor d b l w) l w))
+gaps-roomy d capacity [] b w o k = tt
+gaps-roomy d capacity (l ∷ ls) b w o k =
+    let v = afterEvents (eventsOf d b) w in
+    let u = events-open (eventsOf d b) w o in
+    let n = events-sized d b w o k in (
+      room-enough l v u n,
+      gaps-roomy d capacity ls (found.afterLine capacity l b) (afterLine enough l v) (line-open v u enough l)
+          (line-sized l v u n),
+    )
 
-pub reached : (capacity : ℕ) (ls : List (List ℕ)) (b : Both) (k p : ℕ) (r : Refusal) → found.found capacity ls b ≡ stop k p r → r ≢ NoReset → r ≢ LongScriptLine
-    → (d : Side) × ((w : World) → Open w → At d capacity b (w .core .state) → answerOf ls (gapsFor d capacity ls b w) w k ≡ Refused r p)
+pub gaps-fit : (d : Side) (capacity : ℕ) (ls : List (List ℕ)) (b : Both) → GapsFit ls (gapsFor d capacity ls b)
+unfolding gapsFor
+gaps-fit d capacity [] b = tt
+gaps-fit d capacity (l ∷ ls) b =
+    (record { events = events-fit d b; room = omega arith }, gaps-fit d capacity ls (found.afterLine capacity l b))
+
+pub reached : (capacity : ℕ) (ls : List (List ℕ)) (b : Both) (k p : ℕ) (r : Refusal)
+    → found.found capacity ls b ≡ stop k p r → r ≢ NoReset → r ≢ LongScriptLine
+    → (d : Side) × ((w : World) → Open w → Roomy ls (gapsFor d capacity ls b) w → At d capacity b (w .core .state)
+    → answerOf ls (gapsFor d capacity ls b) w k ≡ Refused r p)
 unfolding found.found answerOf gapsFor
 reached capacity [] b k p r e x y = end-stop (b .begun) k p r e
 reached capacity (l ∷ ls) b zero p r e x y =
     let f = line-refuses capacity (gapOf capacity b) l r p (found-here _ _ p r e) x y in (
       f .0,
-      λ w o i.
+      λ w o c i.
           let v = afterEvents (eventsOf (f .0) b) w in
-          (f .1) v (events-open (eventsOf (f .0) b) w o) (at-gap (f .0) capacity b w o i) (roomFor l v) (room-enough l v),
+          (f .1) v (events-open (eventsOf (f .0) b) w o) (at-gap (f .0) capacity b w o i) enough (c .0),
     )
 reached capacity (l ∷ ls) b (suc k) p r e x y =
     let q = found-later (lineAnswer capacity l (gapOf capacity b)) (found.found capacity ls (found.afterLine capacity l b)) k p r e in
     let f = reached capacity ls (found.afterLine capacity l b) k p r (q .1) x y in (
       f .0,
-      λ w o i.
+      λ w o c i.
           let v = afterEvents (eventsOf (f .0) b) w in
           let u = events-open (eventsOf (f .0) b) w o in
-          (f .1) (afterLine (roomFor l v) l v) (line-open v u (roomFor l v) l)
-          (line-at capacity (gapOf capacity b) l (f .0) (q .0) v u (at-gap (f .0) capacity b w o i) (roomFor l v) (room-enough l v)),
+          (f .1) (afterLine enough l v) (line-open v u enough l) (c .1)
+          (line-at capacity (gapOf capacity b) l (f .0) (q .0) v u (at-gap (f .0) capacity b w o i) enough (c .0)),
     )

@@ -1,34 +1,169 @@
--- For every line there is a room that is not too small.
-use Prim.Native.Nat.{ℕ, _+_, _-_, _≤_}
+-- A room that is not too small for any line, in a state that 11 does not refuse.
+use Prim.Native.Nat.{ℕ, _+_, _-_, _*_, _^_, _≤_, _<_}
 use native.Mathlib.Omega.{arith}
-use mathlib.Core.Bool.{Bool, true, false, cond, false≢true}
-use mathlib.Core.Path.{_≡_, refl, sym, ap, _∙_}
+use mathlib.Core.Bool.{Bool, true, false, cond, and-eq-true-iff, false≢true}
+use mathlib.Core.Path.{_≡_, refl, sym}
 use mathlib.Core.List.{List, [], _∷_}
-use lib.Dec.{leb}
-use lib.ListN.{length}
-use borrow.Author.Tests.{le-leb}
+use lib.Dec.{leb, ltb, eqb}
+use lib.ListN.{length, length-append, List·getD-eq-default}
+use borrow.Author.Tests.{le-leb, leb-true, ltb-true, ltb-false}
 use Rattle.refusal.specs.Meaning.{meaningOf}
 use Rattle.refusal.specs.declared.Refusal.{Refusal}
 use Rattle.refusal.specs.declared.Refusal.the-variants.{Malformed, OutOfRange, NotAllowed, NoRoom, LongLine, BadEvent, NoReset, LongScriptLine, BadTraces, BadStart, BadState}
+use Rattle.refusal.specs.Answer.{isNoRoom, drops}
+use Rattle.settings.specs.Table.{entries, fmod, freq, send, behind, valueOf}
+use Rattle.settings.specs.Frequency.{hertz, inForce}
+use Rattle.settings.specs.Allowed.{keeps, keepsAll}
+use Rattle.settings.proofs.Every.{every-at}
+use Rattle.storage.specs.Storage.{holdsOf}
+use Rattle.storage.proofs.Kept.{facts}
+use Rattle.status.specs.Bits.{bitOf, meets}
+use Rattle.status.specs.Status.{enableOf, otherBits, statusByte}
+use Rattle.status.specs.declared.Registers.{Registers}
+use Rattle.status.specs.declared.Enables.{Enables}
+use Rattle.status.specs.declared.Poll.{Poll}
+use Rattle.status.proofs.Bits.{bit-lt}
+use Rattle.status.proofs.Flags.{flag-le, other-lt}
+use Rattle.text.proofs.Digits.{padded-length}
+use Rattle.name.specs.declared.Register.{Register}
+use Rattle.name.specs.declared.Register.the-variants.{Standard, Service, Lia, Errors}
+use Rattle.clean.specs.Clean.{cleaned}
+use Rattle.clean.specs.Texts.{semicolon, textsOf}
+use Rattle.clean.proofs.Bound.{cleaned-length}
 use Rattle.command.specs.Parsed.{parsedOf}
+use Rattle.command.specs.declared.QueryArgument.{QueryArgument}
+use Rattle.command.specs.declared.QueryArgument.the-variants as query
+use Rattle.command.specs.declared.Kind.{Kind}
+use Rattle.command.specs.declared.Kind.the-variants.{Set, Query, Act}
 use Rattle.command.specs.declared.Parsed.{Parsed}
 use Rattle.command.specs.declared.Parsed.the-variants.{Empty, Taken, Refused}
+use Rattle.state.specs.Allowed.{keepsUnit, allowedState}
 use Rattle.state.specs.declared.State.{State}
-use Rattle.allow.specs.Allows.{allowsOf}
+use Rattle.allow.specs.Allows.{queryAllowed, allowsOf}
 use Rattle.reply.specs.Reply.{fitsIn}
-use Rattle.answer.specs.Reply.{replyOf}
-use Rattle.line.specs.Perform.{refusedBy, doneBy, performed, commandOf}
-use Rattle.refusal.specs.Answer.{isNoRoom, drops}
+use Rattle.reply.proofs.Over.{pointBytes-length}
+use Rattle.reply_text.specs.ReplyText.{valueNow, valueText, pairText, statusNow, statusOf, identityText, textOf}
+use Rattle.reply_text.proofs.Texts.{value-length, plain-short}
+use Rattle.answer.specs.Reply.{endedText, traceReply, queryReply, replyOf}
+use Rattle.event.proofs.Crossed.{sound}
+use Rattle.line.specs.Perform.{Effect, refusedBy, doneBy, performed, commandOf}
 use Rattle.line.specs.Line.{Line, waits, afterOf, stepOf, runAll, startLine, lineOf}
-use Rattle.clean.specs.Texts.{textsOf}
+use Rattle.script.proofs.Parts.{parts-length}
+use Rattle.lockin.specs.Calls as calls
+use Rattle.lockin.specs.Calls.{Call, guarded, wholeLine, lineCall}
+use Rattle.demands.proofs.Again.{kept-size}
 use Rattle.demands.proofs.Sane.{SaneParsed, parsed-sane}
-use Rattle.courses.specs.Course.{World, crowded}
+use Rattle.demands.proofs.States.{states-stay}
+use Rattle.courses.specs.Course.{World, afterLine, crowded}
+use Rattle.courses.proofs.Sound.{Open, open-allowed}
+use Rattle.courses.proofs.Sized.{Sized, register-byte, enable-byte, after-sized, marked-sized}
 
--- the reply bytes of a command that is done
-abbrev replied : Bool → Parsed → State → List ℕ → List ℕ → ℕ
-replied waiting Empty s one two = 0
-replied waiting (Refused r) s one two = 0
-replied waiting (Taken c) s one two = length (replyOf (c .kind) s waiting one two)
+-- ---- a reply
+
+-- the longest one: 16383 points of four bytes each
+abbrev most : ℕ
+most = 65532
+
+status-lt : (r : Registers) (e : Enables) (p : Poll) → statusByte r e p < 2 ^ 32
+unfolding statusByte
+status-lt r e p = omega (arith, other-lt r e p, flag-le (meets (otherBits r e p) (e .service)) 6)
+
+module _ (s : State) (a : allowedState s ≡ true) (k : Sized s) where
+  value-small : (e : ℕ) → valueOf (s .settings) e < 2 ^ 32
+  unfolding keepsAll
+  value-small e = by (ltb e entries) refl where
+    by : (t : Bool) → ltb e entries ≡ t → valueOf (s .settings) e < 2 ^ 32
+    by true p =
+        let l = ltb-true e entries p in
+        let h = every-at (λ i. keeps i (valueOf (s .settings) i)) entries (sound s a .values) e l in
+        omega (arith, kept-size e (valueOf (s .settings) e) h)
+    by false p =
+        rw (List·getD-eq-default (s .settings .values) 0 {n = e} (rw (k .full) (ltb-false e entries p))) (omega arith)
+
+  external-small : s .moving .external < 2 ^ 32
+  external-small =
+      let f = s .moving .external in
+      let p = and-eq-true-iff (leb 10 f) (leb f (hertz 102000)) .0 (sound s a .external) in
+      omega (arith, leb-true f (hertz 102000) (p .1))
+
+  now-small : (e : ℕ) → valueNow s e < 2 ^ 32
+  unfolding valueNow inForce
+  now-small e = by (eqb e freq) (eqb (valueOf (s .settings) fmod) 1) where
+    by : (t u : Bool)
+        → cond t (cond u (valueOf (s .settings) freq) (s .moving .external)) (valueOf (s .settings) e) < 2 ^ 32
+    by true true = value-small freq
+    by true false = external-small
+    by false u = value-small e
+
+  held-small : s .moving .storage .held ≤ 16383
+  unfolding keepsUnit
+  held-small =
+      let p = facts (s .moving .storage) (s .unit .capacity) (valueOf (s .settings) send) (sound s a .stored) .held in
+      let u = and-eq-true-iff (leb (s .unit .serial) 99999) _ .0 (sound s a .unit) in
+      let v = and-eq-true-iff (leb (s .unit .port) 1) _ .0 (u .1) in
+      let w = and-eq-true-iff (leb 1 (s .unit .capacity)) (leb (s .unit .capacity) 16383) .0 (v .1) in
+      omega (arith, leb-true (s .unit .capacity) 16383 (w .1))
+
+  status-small : (waiting : Bool) (which : Register) → statusOf s waiting which < 2 ^ 32
+  unfolding statusOf statusNow
+  status-small waiting Standard = omega (arith, register-byte (s .registers) (k .registers) Standard)
+  status-small waiting Service = status-lt (s .registers) (s .enables) _
+  status-small waiting Lia = omega (arith, register-byte (s .registers) (k .registers) Lia)
+  status-small waiting Errors = omega (arith, register-byte (s .registers) (k .registers) Errors)
+
+  text-short : (q : QueryArgument) (waiting : Bool) → length (textOf q s waiting) ≤ 32
+  unfolding textOf valueText pairText identityText
+  text-short (query.Value entry) waiting = omega (arith, value-length entry (valueNow s entry) (now-small entry))
+  text-short (query.Pair entry) waiting =
+      rw (length-append)
+      (omega (
+        arith,
+        value-length entry (valueNow s entry) (now-small entry),
+        value-length (behind entry) (valueNow s (behind entry)) (now-small (behind entry)),
+      ))
+  text-short (query.Enable which) waiting =
+      let h = enable-byte (s .enables) (k .enables) which in
+      omega (arith, plain-short (enableOf (s .enables) which) (omega arith))
+  text-short (query.EnableBit which i) waiting =
+      let h = bit-lt (enableOf (s .enables) which) i in
+      omega (arith, plain-short (bitOf (enableOf (s .enables) which) i) (omega arith))
+  text-short (query.Status which) waiting =
+      omega (arith, plain-short (statusOf s waiting which) (status-small waiting which))
+  text-short (query.StatusBit which i) waiting =
+      let h = bit-lt (statusOf s waiting which) i in
+      omega (arith, plain-short (bitOf (statusOf s waiting which) i) (omega arith))
+  text-short query.Identity waiting = rw (length-append, length-append, padded-length) (omega arith)
+  text-short query.Points waiting =
+      omega (arith, plain-short (s .moving .storage .held) (omega (arith, held-small)))
+  text-short (query.Trace form t bin count) waiting = omega arith
+
+  ended-short : (q : QueryArgument) (waiting : Bool) → length (endedText q s waiting) ≤ most
+  unfolding endedText
+  ended-short q waiting = rw (length-append) (omega (arith, text-short q waiting))
+
+  query-short : (q : QueryArgument) (waiting : Bool) (one two : List ℕ) → queryAllowed (s .moving) q ≡ true
+      → length (queryReply q s waiting one two) ≤ most
+  unfolding queryReply traceReply queryAllowed holdsOf
+  query-short (query.Trace form t bin count) waiting one two h =
+      let fits = leb-true (bin + count) (s .moving .storage .held) h in
+      rw (pointBytes-length form _ _ count) (omega (arith, held-small))
+  query-short (query.Value entry) waiting one two h = ended-short (query.Value entry) waiting
+  query-short (query.Pair entry) waiting one two h = ended-short (query.Pair entry) waiting
+  query-short (query.Enable which) waiting one two h = ended-short (query.Enable which) waiting
+  query-short (query.EnableBit which i) waiting one two h = ended-short (query.EnableBit which i) waiting
+  query-short (query.Status which) waiting one two h = ended-short (query.Status which) waiting
+  query-short (query.StatusBit which i) waiting one two h = ended-short (query.StatusBit which i) waiting
+  query-short query.Identity waiting one two h = ended-short query.Identity waiting
+  query-short query.Points waiting one two h = ended-short query.Points waiting
+
+  reply-short : (kind : Kind) (waiting : Bool) (one two : List ℕ) → allowsOf (s .settings) (s .moving) kind ≡ true
+      → length (replyOf kind s waiting one two) ≤ most
+  unfolding replyOf allowsOf
+  reply-short (Set x) waiting one two h = omega arith
+  reply-short (Query q) waiting one two h = query-short q waiting one two h
+  reply-short (Act x) waiting one two h = omega arith
+
+-- ---- a command
 
 small : (r : Refusal) → meaningOf r .number ≤ 2 → isNoRoom r ≡ false
 unfolding isNoRoom
@@ -44,59 +179,101 @@ small BadTraces h = refl
 small BadStart h = refl
 small BadState h = refl
 
--- in a room that holds them nothing is refused by 4, and the room makes no difference
-command-fits : (room : ℕ) (waiting : Bool) (p : Parsed) (s : State) (one two : List ℕ) → SaneParsed p → replied waiting p s one two ≤ room
-    → (drops (commandOf room waiting p s one two .outcome) ≡ false)
-    × (commandOf room waiting p s one two ≡ commandOf (replied waiting p s one two) waiting p s one two)
+-- in a room for the longest reply nothing is refused by 4
+record Fits (e : Effect) : Type 0 where
+  kept : drops (e .outcome) ≡ false
+  short : length (e .out) ≤ most
+  sized : Sized (e .state)
+
+command-fits : (room : ℕ) (waiting : Bool) (p : Parsed) (s : State) (one two : List ℕ) → SaneParsed p
+    → allowedState s ≡ true → Sized s → most ≤ room → Fits (commandOf room waiting p s one two)
 unfolding commandOf performed fitsIn drops
-command-fits room waiting Empty s one two k h = (refl, refl)
-command-fits room waiting (Refused r) s one two k h = (small r k, refl)
-command-fits room waiting (Taken c) s one two k h =
-    let n = length (replyOf (c .kind) s waiting one two) in
-    rw (le-leb n room h, le-leb n n (omega arith)) (by (allowsOf (s .settings) (s .moving) (c .kind)), refl)
-  where
-    by : (t : Bool) → drops (cond t (doneBy (c .kind) (replyOf (c .kind) s waiting one two) s one two) (refusedBy NotAllowed s one two) .outcome) ≡ false
-    by true = unfold doneBy drops in refl
-    by false = unfold drops isNoRoom in refl
+command-fits room waiting Empty s one two c a k h = record { kept = refl; short = omega arith; sized = k }
+command-fits room waiting (Refused r) s one two c a k h =
+    record { kept = small r c; short = omega arith; sized = marked-sized r s k }
+command-fits room waiting (Taken c) s one two n a k h = by (allowsOf (s .settings) (s .moving) (c .kind)) refl where
+  reply : List ℕ
+  reply = replyOf (c .kind) s waiting one two
 
--- enough for one more command, and for the rest of a line
-abbrev need : List ℕ → Line → ℕ
-need t l = length (l .out) + replied (waits (l .out)) (parsedOf t) (l .state) (l .one) (l .two)
+  done : Effect
+  done = doneBy (c .kind) reply s one two
 
-step-fits : (room : ℕ) (t : List ℕ) (l : Line) → need t l ≤ room → (stepOf room t l .dropped ≡ false) × (stepOf room t l ≡ stepOf (need t l) t l)
+  by : (t : Bool) → allowsOf (s .settings) (s .moving) (c .kind) ≡ t
+      → Fits
+      (cond t (cond (leb (length reply) room) done (refusedBy NoRoom s one two)) (refusedBy NotAllowed s one two))
+  by true e =
+      let short = reply-short s a k (c .kind) waiting one two e in
+      rw (le-leb (length reply) room (omega arith))
+      (unfold doneBy in record { kept = refl; short = short; sized = after-sized (c .kind) s k })
+  by false e = record { kept = unfold isNoRoom in refl; short = omega arith; sized = marked-sized NotAllowed s k }
+
+-- ---- a line
+
+cond-rest : (t : Bool) (next rest : Line) (P : Line → Type 0) → t ≡ false → P rest → P (cond t next rest)
+cond-rest true next rest P e d = absurd (false≢true (sym e))
+cond-rest false next rest P e d = d
+
+-- the line after one more command
+record Goes (room : ℕ) (t : List ℕ) (l : Line) : Type 0 where
+  allowed : allowedState (stepOf room t l .state) ≡ true
+  sized : Sized (stepOf room t l .state)
+  kept : stepOf room t l .dropped ≡ false
+  short : length (stepOf room t l .out) ≤ length (l .out) + most
+
+step-fits : (room : ℕ) (t : List ℕ) (l : Line) → allowedState (l .state) ≡ true → Sized (l .state)
+    → length (l .out) + most ≤ room → Goes room t l
 unfolding stepOf afterOf
-step-fits room t l h =
-    let n = replied (waits (l .out)) (parsedOf t) (l .state) (l .one) (l .two) in
-    let k = command-fits (room - length (l .out)) (waits (l .out)) (parsedOf t) (l .state) (l .one) (l .two) (parsed-sane t) (omega arith) in
-    let z : need t l - length (l .out) ≡ n = omega arith in
-    (k .0, rw (z, k .1) refl)
+step-fits room t l a k h =
+    let left = room - length (l .out) in
+    let c =
+    command-fits left (waits (l .out)) (parsedOf t) (l .state) (l .one) (l .two) (parsed-sane t) a k (omega arith)
+    in
+    record {
+      allowed = states-stay .command left (waits (l .out)) t (l .state) (l .one) (l .two) .allowed a;
+      sized = c .sized;
+      kept = c .kept;
+      short = rw (length-append) (omega (arith, c .short));
+    }
 
-needs : List (List ℕ) → Line → ℕ
-needs [] l = 0
-needs (t ∷ ts) l = need t l + needs ts (stepOf (need t l) t l)
+run-fits : (room : ℕ) (ts : List (List ℕ)) (l : Line) → allowedState (l .state) ≡ true → Sized (l .state)
+    → l .dropped ≡ false → length (l .out) + length ts * most ≤ room
+    → (runAll room ts l .dropped ≡ false) × Sized (runAll room ts l .state)
+unfolding runAll
+run-fits room [] l a k e h = (e, k)
+run-fits room (t ∷ ts) l a k e h =
+    let g = step-fits room t l a k (omega arith) in
+    let next = stepOf room t l in
+    cond-rest (next .dropped) next (runAll room ts next) (λ (x : Line). (x .dropped ≡ false) × Sized (x .state))
+    (g .kept) (run-fits room ts next (g .allowed) (g .sized) (g .kept) (omega (arith, g .short)))
 
-cond-rest : (t : Bool) (next rest : Line) → t ≡ false → rest .dropped ≡ false → cond t next rest .dropped ≡ false
-cond-rest true next rest e d = absurd (false≢true (sym e))
-cond-rest false next rest e d = d
+-- a line of at most 256 bytes has at most 257 commands: room for that many of the longest replies
+abbrev pub enough : ℕ
+enough = 257 * most
 
-run-fits : (room : ℕ) (ts : List (List ℕ)) (l : Line) → l .dropped ≡ false → needs ts l ≤ room → runAll room ts l .dropped ≡ false
-unfolding needs runAll
-run-fits room [] l e h = e
-run-fits room (t ∷ ts) l e h =
-    let k = step-fits room t l (omega arith) in
-    let next = stepOf (need t l) t l in
-    let n : runAll room ts next .dropped ≡ false = run-fits room ts next (sym (ap (λ (x : Line). x .dropped) (k .1)) ∙ k .0) (omega arith) in
-    cond-rest (stepOf room t l .dropped) (stepOf room t l) (runAll room ts (stepOf room t l)) (k .0) (ap (λ (x : Line). runAll room ts x .dropped) (k .1) ∙ n)
+module _ (l : List ℕ) (w : World) (o : Open w) (k : Sized (w .core .state)) where
+  ran : Line
+  ran = lineOf enough l (w .core .state) (w .one) (w .two)
 
--- a room for a line
-pub roomFor : List ℕ → World → ℕ
-roomFor l w = needs (textsOf l) (startLine (w .core .state) (w .one) (w .two))
+  short-fits : length l ≤ 256 → (ran .dropped ≡ false) × Sized (ran .state)
+  unfolding ran lineOf
+  short-fits h =
+      run-fits enough (textsOf l) (startLine (w .core .state) (w .one) (w .two)) (open-allowed w o) k refl
+      (omega (arith, parts-length semicolon (cleaned l), cleaned-length l))
 
-pub room-enough : (l : List ℕ) (w : World) → crowded (roomFor l w) l w ≡ false
-unfolding crowded roomFor lineOf
-room-enough l w =
-    by (leb (length l) 256) (run-fits (roomFor l w) (textsOf l) (startLine (w .core .state) (w .one) (w .two)) refl (unfold roomFor in omega arith))
-  where
-    by : (t : Bool) {d : Bool} → d ≡ false → cond t d false ≡ false
-    by true e = e
+  pub room-enough : crowded enough l w ≡ false
+  unfolding crowded ran
+  room-enough = by (leb (length l) 256) refl where
+    by : (t : Bool) → leb (length l) 256 ≡ t → cond t (ran .dropped) false ≡ false
+    by true e = short-fits (leb-true (length l) 256 e) .0
     by false e = refl
+
+  -- a line that is too long sets its bit
+  pub line-sized : Sized (afterLine enough l w .core .state)
+  unfolding afterLine lineCall guarded wholeLine ran
+  line-sized = rw o (by (leb (length l) 256) refl) where
+    long : Call
+    long = calls.tooLong (w .core) (w .core .queue) (w .one) (w .two)
+
+    by : (t : Bool) → leb (length l) 256 ≡ t → Sized (cond t (calls.ran ran (w .core .queue)) long .after .state)
+    by true e = short-fits (leb-true (length l) 256 e) .1
+    by false e = marked-sized LongLine (w .core .state) k

@@ -1,21 +1,23 @@
 -- Every course against what the check finds: where it finds nothing every line passes; where it stops, every line before passes and none is refused earlier.
 use Prim.Native.Nat.{ℕ, zero, suc, _≤_, _<_}
 use native.Mathlib.Omega.{arith}
-use mathlib.Core.Bool.{Bool, true, false, cond}
+use mathlib.Core.Bool.{Bool, true, false, cond, and-eq-true-iff}
 use mathlib.Core.Path.{_≡_, refl, sym, ap, _∙_}
 use mathlib.Core.List.{List, [], _∷_}
 use lib.ListN.{length}
 use borrow.Author.Tests.{ltb-true, ltb-false, le-leb, lt-leb}
 use Rattle.refusal.specs.declared.Refusal.{Refusal}
-use Rattle.refusal.specs.declared.Refusal.the-variants.{LongLine, LongScriptLine}
+use Rattle.refusal.specs.declared.Refusal.the-variants.{LongLine, LongScriptLine, BadState}
+use Rattle.refusal.specs.declared.Outcome.{Outcome}
 use Rattle.refusal.specs.declared.Outcome.the-variants as outcome
+use Rattle.state.specs.Allowed.{allowedState}
 use Rattle.state.specs.declared.State.{State}
 use Rattle.event.specs.Event.{eventOf}
 use Rattle.event.specs.declared.Event.{Event}
 use Rattle.line.specs.Line.{startLine, lineOf}
 use Rattle.clean.specs.Texts.{textsOf}
 use Rattle.refusal.specs.declared.Answer.the-variants.{Passed, Refused}
-use Rattle.module.specs.Module.{guardOf}
+use Rattle.module.specs.Module.{allowedModule, guardOf}
 use Rattle.lockin.specs.Calls.{guarded, wholeLine, lineCall, guardedEvent, eventCall}
 use Rattle.two_courses.specs.Courses.{gapOf}
 use Rattle.two_courses.specs.declared.Both.{Both}
@@ -25,12 +27,19 @@ use Rattle.demands.proofs.StaysAllowed.{stays-allowed}
 use Rattle.courses.specs.Course.{World, lineIn, afterLine, afterEvent, afterEvents, Gap, Gaps, before, after, crowded, Roomy, answerOf}
 use Rattle.courses.proofs.Gap.{Ready, Within, gap-ready, event-within}
 use Rattle.courses.proofs.Found as found
-use Rattle.courses.proofs.Found.{fine, stop, lineAnswer, not-passed, found-fine, found-here, found-later}
+use Rattle.courses.proofs.Found.{fine, stop, lineAnswer, not-passed, not-done, found-fine, found-here, found-later}
 use Rattle.courses.proofs.Commands.{Sim, run-passed, run-earlier}
 
 -- neither 11 nor 9 refuses a call
 abbrev pub Open : World → Type 0
 Open w = guardOf (w .core) (length (w .one)) (length (w .two)) ≡ outcome.Done
+
+pub open-allowed : (w : World) → Open w → allowedState (w .core .state) ≡ true
+unfolding guardOf allowedModule
+open-allowed w o = and-eq-true-iff (allowedState (w .core .state)) _ .0 (by (allowedModule (w .core)) _ o) .0 where
+  by : (t : Bool) (u : Outcome) → cond t u (outcome.Refused BadState) ≡ outcome.Done → t ≡ true
+  by true u e = refl
+  by false u e = not-done BadState e
 
 module _ (w : World) (o : Open w) where
   pub line-open : (room : ℕ) (l : List ℕ) → Open (afterLine room l w)

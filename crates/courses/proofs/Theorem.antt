@@ -6,7 +6,7 @@ use mathlib.Core.Path.{_≡_, refl, sym, ap, _∙_}
 use mathlib.Core.Logic.{_≢_, _↔_}
 use mathlib.Core.List.{List, [], _∷_}
 use lib.Dec.{leb, ltb}
-use lib.ListN.{getD, replicate, length-replicate}
+use lib.ListN.{length, getD, length-replicate}
 use borrow.Author.Tests.{eq-eqb, ltb-true, ltb-false, leb-true, leb-false}
 use Rattle.refusal.specs.declared.Refusal.{Refusal}
 use Rattle.refusal.specs.declared.Refusal.the-variants.{Malformed, OutOfRange, NotAllowed, NoRoom, LongLine, BadEvent, NoReset, LongScriptLine, BadTraces, BadStart, BadState}
@@ -14,14 +14,14 @@ use Rattle.refusal.specs.declared.Outcome.the-variants as outcome
 use Rattle.command.specs.declared.Parsed.{Parsed}
 use Rattle.state.specs.State.{startState}
 use Rattle.refusal.specs.declared.Answer.the-variants.{Passed, Refused}
-use Rattle.module.specs.Start.{unitKnown, tracesFit, freshModule, startOf}
-use Rattle.module.specs.Module.{guardOf}
+use Rattle.module.specs.Start.{freshModule}
+use Rattle.module.specs.Module.{allowedModule, guardOf}
 use Rattle.two_courses.specs.Courses.{startBoth}
 use Rattle.script.specs.Check.{tooLong, linesOf, capacityFits, checkOf}
 use Rattle.verdict.specs.declared.Verdict.{Verdict}
 use Rattle.verdict.specs.declared.Verdict.the-variants.{Fine, No}
 use Rattle.demands.proofs.StaysAllowed.{stays-allowed}
-use Rattle.courses.specs.Course.{World, before, after, Gaps, Course, answerOf, answers}
+use Rattle.courses.specs.Course.{World, StartAnswers, Startable, freshWorld, before, after, Gaps, Course, answerOf, answers}
 use Rattle.courses.specs.Demand3.{lineAt, Short, first, leadOf, isReset, begins, AllPass, FirstRefused, NotBegun, other, nothing, LongAt, Demand3}
 use Rattle.courses.specs.Demand3 as demand
 use Rattle.courses.proofs.Alike.{alike-self}
@@ -30,48 +30,67 @@ use Rattle.courses.proofs.Found.{Found, fine, none, stop, numbered, ver
 use Rattle.courses.proofs.Commands.{Sim}
 use Rattle.courses.proofs.Sound.{Open, line-open, line-long, events-open, script-fine, script-before, script-earlier}
 use Rattle.courses.proofs.Witness.{Side, low, high, At}
-use Rattle.courses.proofs.Reached.{gapsFor, gaps-roomy, reached}
+use Rattle.courses.proofs.Fresh.{fits-start, unfit-start, start-fits, start-unfit, fresh-core, fresh-fits}
+use Rattle.courses.proofs.Sized.{Sized}
+use Rattle.courses.proofs.Reached.{gapsFor, gaps-roomy, gaps-fit, reached}
 use Rattle.courses.proofs.Long.{numberOf, short-fine, short-none, short-before, short-here, long-here, stop-number}
 use Rattle.courses.proofs.Led.{seven-eight, led-fine, led-none, led-seven, led-other, led-before}
 
 -- ---- any course, where the check begins
 
-module _ (capacity : ℕ) (lines : List (List ℕ)) (k : Course capacity lines) where
-  course-open : Open (k .start)
-  unfolding guardOf
-  course-open = rw (k .allowed, k .told, k .first, k .second, eq-eqb capacity capacity refl) refl
+world-open : (capacity : ℕ) (w : World) → allowedModule (w .core) ≡ true → w .core .state .unit .capacity ≡ capacity
+    → length (w .one) ≡ capacity → length (w .two) ≡ capacity → Open w
+unfolding guardOf
+world-open capacity w a t f s = rw (a, t, f, s, eq-eqb capacity capacity refl) refl
 
+module _ (capacity : ℕ) (lines : List (List ℕ)) (k : Course capacity lines) where
   course-sim : Sim capacity startBoth (k .start .core .state)
   course-sim = record { same = k .told; begun = λ e. absurd (false≢true e) }
 
+  course-open : Open (k .start)
+  course-open = world-open capacity (k .start) (k .allowed) (k .told) (k .first) (k .second)
+
 -- ---- the check's two courses, from a fresh module
 
-fresh : ℕ → World
-fresh capacity = record { core = startOf 0 1 capacity capacity .after; one = replicate capacity 0; two = replicate capacity 0 }
-
 module _ (capacity : ℕ) (fits : capacityFits capacity ≡ true) where
-  start-is : startOf 0 1 capacity capacity
-      ≡ record { after = freshModule (record { serial = 0; port = 1; capacity = capacity }); outcome = outcome.Done }
-  unfolding startOf unitKnown tracesFit
-  start-is = rw (eq-eqb capacity capacity refl, fits) refl
+  fresh-at : (d : Side) → At d capacity startBoth (freshWorld capacity .core .state)
+  fresh-at low =
+      rw (fresh-core capacity fits)
+      (unfold freshModule startState in record { same = refl; alike = alike-self _; moving = refl })
+  fresh-at high =
+      rw (fresh-core capacity fits)
+      (unfold freshModule startState in record { same = refl; alike = alike-self _; moving = refl })
 
-  fresh-at : (d : Side) → At d capacity startBoth (fresh capacity .core .state)
-  unfolding fresh
-  fresh-at low = rw start-is (unfold freshModule startState in record { same = refl; alike = alike-self _; moving = refl })
-  fresh-at high = rw start-is (unfold freshModule startState in record { same = refl; alike = alike-self _; moving = refl })
+  fresh-open : Open (freshWorld capacity)
+  unfolding freshWorld
+  fresh-open =
+      world-open capacity (freshWorld capacity) (stays-allowed .start 0 1 capacity capacity) (fresh-at low .same)
+      (length-replicate capacity 0) (length-replicate capacity 0)
+
+  fresh-sized : Sized (freshWorld capacity .core .state)
+  fresh-sized =
+      let k = fresh-fits capacity fits .core .state in
+      record { full = k .full; registers = k .registers; enables = k .enables }
 
   course-of : (d : Side) (lines : List (List ℕ)) → Course capacity lines
-  unfolding fresh
+  unfolding freshWorld
   course-of d lines =
       record {
-        start = fresh capacity;
+        start = freshWorld capacity;
         allowed = stays-allowed .start 0 1 capacity capacity;
         told = fresh-at d .same;
         first = length-replicate capacity 0;
         second = length-replicate capacity 0;
-        gaps = gapsFor d capacity lines startBoth (fresh capacity);
-        rooms = gaps-roomy d capacity lines startBoth (fresh capacity);
+        fits = fresh-fits capacity fits;
+        gaps = gapsFor d capacity lines startBoth;
+        gaps-fit = gaps-fit d capacity lines startBoth;
+        rooms = gaps-roomy d capacity lines startBoth (freshWorld capacity) fresh-open fresh-sized;
       }
+
+  -- it starts so
+  course-fresh : (d : Side) (lines : List (List ℕ)) → course-of d lines .start ≡ freshWorld capacity
+  unfolding course-of
+  course-fresh d lines = refl
 
 -- ---- cases
 
@@ -177,13 +196,14 @@ module _ (capacity : ℕ) (lines : List (List ℕ)) where
         script-earlier capacity lines startBoth (k .start) (k .gaps) (course-open capacity lines k) (course-sim capacity lines k) (k .rooms) i p r e
 
     refused-first : capacityFits capacity ≡ true → r ≢ NoReset → r ≢ LongScriptLine → FirstRefused capacity lines (suc i) p r
-    unfolding answers course-of fresh
+    unfolding answers course-of
     refused-first fits x y =
         let w = reached capacity lines startBoth i p r e x y in
         let k = course-of capacity fits (w .0) lines in
         record {
           witness = k;
-          refuses = (w .1) (k .start) (course-open capacity lines k) (fresh-at capacity fits (w .0));
+          fresh = course-fresh capacity fits (w .0) lines;
+          refuses = (w .1) (k .start) (course-open capacity lines k) (k .rooms) (fresh-at capacity fits (w .0));
           before = course-before;
           earlier = course-earlier;
         }
@@ -200,7 +220,7 @@ module _ (capacity : ℕ) (lines : List (List ℕ)) where
   all-pass : capacityFits capacity ≡ true → finds capacity lines ≡ fine → AllPass capacity lines
   all-pass fits e =
       record {
-        capacity-fits = fits;
+        startable = fits-start capacity fits;
         begun = led-fine capacity 1 lines startBoth refl e;
         short = short-every (short-fine capacity lines startBoth e);
         passed = course-fine e;
@@ -385,7 +405,9 @@ module _ (capacity : ℕ) (script : List ℕ) where
         by-capacity Fine (AllPass capacity (linesOf script)) e
         (λ h f. all-pass capacity (linesOf script) h (numbered-fine (finds capacity (linesOf script)) f))
         (λ h f. never (cc))),
-    (λ a. check-fits capacity script (a .capacity-fits) ∙ ap (numbered 1) (fine-back capacity (linesOf script) (a .capacity-fits) a)),
+    (λ a.
+        let h = start-fits capacity (a .startable) in
+        check-fits capacity script h ∙ ap (numbered 1) (fine-back capacity (linesOf script) h a)),
   )
 
   no-case : (n p : ℕ) (r : Refusal) → checkOf capacity script ≡ No n p r → r ≢ NoReset → r ≢ LongScriptLine → r ≢ BadTraces
@@ -398,18 +420,21 @@ module _ (capacity : ℕ) (script : List ℕ) where
       (λ i a b. rw b (refused-first capacity (linesOf script) i p r a h x y)))
       (λ h f. let w : BadTraces ≡ r = cc in absurd (z (sym w)))
 
-  seven-case : (n p : ℕ) → (checkOf capacity script ≡ No n p NoReset) ↔ ((capacityFits capacity ≡ true) × NotBegun (linesOf script) n p)
+  seven-case : (n p : ℕ)
+      → (checkOf capacity script ≡ No n p NoReset) ↔ (Startable capacity × NotBegun (linesOf script) n p)
   seven-case n p = (
     (λ e.
-        by-capacity (No n p NoReset) ((capacityFits capacity ≡ true) × NotBegun (linesOf script) n p) e
+        by-capacity (No n p NoReset) (Startable capacity × NotBegun (linesOf script) n p) e
         (λ h f. (
-          h,
+          fits-start capacity h,
           numbered-no (finds capacity (linesOf script)) n p NoReset (NotBegun (linesOf script) n p) f
               (λ a b c d. rw (b, c) (no-command capacity (linesOf script) a))
               (λ i a b. rw b (not-begun capacity (linesOf script) i p a)),
         ))
         (λ h f. let w : BadTraces ≡ NoReset = cc in absurd (seven-nine (sym w)))),
-    (λ a. check-fits capacity script (a .0) ∙ begun-back capacity (linesOf script) (a .0) n p (a .1)),
+    (λ a.
+        let h = start-fits capacity (a .0) in
+        check-fits capacity script h ∙ begun-back capacity (linesOf script) h n p (a .1)),
   )
 
   long-number : capacityFits capacity ≡ true → (n p : ℕ) → LongAt capacity (linesOf script) n p → checkOf capacity script ≡ No n p LongScriptLine
@@ -419,28 +444,41 @@ module _ (capacity : ℕ) (script : List ℕ) where
       let z : 1 + j ≡ suc j = omega arith in
       check-fits capacity script fits ∙ (f ∙ rw (z, a .nowhere) refl)
 
-  eight-case : (n p : ℕ) → (checkOf capacity script ≡ No n p LongScriptLine) ↔ ((capacityFits capacity ≡ true) × LongAt capacity (linesOf script) n p)
+  eight-case : (n p : ℕ)
+      → (checkOf capacity script ≡ No n p LongScriptLine) ↔ (Startable capacity × LongAt capacity (linesOf script) n p)
   eight-case n p = (
     (λ e.
-        by-capacity (No n p LongScriptLine) ((capacityFits capacity ≡ true) × LongAt capacity (linesOf script) n p) e
+        by-capacity (No n p LongScriptLine) (Startable capacity × LongAt capacity (linesOf script) n p) e
         (λ h f. (
-          h,
+          fits-start capacity h,
           numbered-no (finds capacity (linesOf script)) n p LongScriptLine (LongAt capacity (linesOf script) n p) f
               (λ a b c d. absurd (seven-eight (sym d)))
               (λ i a b. rw b (long-at capacity (linesOf script) i p a)),
         ))
         (λ h f. let w : BadTraces ≡ LongScriptLine = cc in absurd (apart BadTraces LongScriptLine (λ u. omega arith) w))),
-    (λ a. long-number (a .0) n p (a .1)),
+    (λ a. long-number (start-fits capacity (a .0)) n p (a .1)),
   )
 
-  nine-case : (n p : ℕ) → (checkOf capacity script ≡ No n p BadTraces) ↔ ((capacityFits capacity ≡ false) × (n ≡ 0) × (p ≡ 0))
+  nine-case : (n p : ℕ)
+      → (checkOf capacity script ≡ No n p BadTraces)
+      ↔ (StartAnswers capacity (outcome.Refused BadTraces) × (n ≡ 0) × (p ≡ 0))
   nine-case n p = (
     (λ e.
-        by-capacity (No n p BadTraces) ((capacityFits capacity ≡ false) × (n ≡ 0) × (p ≡ 0)) e
+        by-capacity (No n p BadTraces) (StartAnswers capacity (outcome.Refused BadTraces) × (n ≡ 0) × (p ≡ 0)) e
         (λ h f. absurd (found-nine capacity (linesOf script) n p f))
-        (λ h f. (h, cc, cc))),
-    (λ a. check-unfit capacity script (a .0) ∙ rw (a .1, a .2) refl),
+        (λ h f. (unfit-start capacity h, cc, cc))),
+    (λ a. check-unfit capacity script (start-unfit capacity (a .0)) ∙ rw (a .1, a .2) refl),
   )
 
   pub demand3 : Demand3 capacity script
-  demand3 = record { yes = yes-case; no = no-case; seven = seven-case; eight = eight-case; nine = nine-case; course = λ h. course-of capacity h low (linesOf script) }
+  demand3 =
+      record {
+        yes = yes-case;
+        no = no-case;
+        seven = seven-case;
+        eight = eight-case;
+        nine = nine-case;
+        course = λ s.
+            let h = start-fits capacity s in
+            (course-of capacity h low (linesOf script), course-fresh capacity h low (linesOf script));
+      }

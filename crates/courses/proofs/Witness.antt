@@ -37,6 +37,7 @@ use Rattle.event.specs.declared.Event.the-variants.{Trigger, Measured}
 use Rattle.two_courses.specs.Courses.{resets, measuredHigh, triggeredHigh, kindRefusal, textRefusal, kindAfter, textAfter}
 use Rattle.two_courses.specs.declared.Both.{Both}
 use Rattle.script.specs.Check.{textsAnswer, textsAfter}
+use Rattle.demands.specs.Representable.{Every, EventFits}
 use Rattle.courses.proofs.Alike.{Alike, alike-then, alike-value, alike-allows, alike-after, alike-moving, alike-sampling, after-settings, after-moving, after-unit, crossed-settings, crossed-moving}
 use Rattle.courses.proofs.Gap.{harm-kept}
 use Rattle.courses.proofs.Found.{not-passed, not-done, answer-passed, answer-split}
@@ -205,6 +206,12 @@ highest x = hertz 102000 / valueOf x harm
 unfoldable pub eventsOf : Side → Both → List Event
 eventsOf low b = []
 eventsOf high b = Measured (highest (b .settings)) ∷ Trigger ∷ []
+
+-- there can be such events
+pub events-fit : (d : Side) (b : Both) → Every EventFits (eventsOf d b)
+unfolding eventsOf
+events-fit low b = tt
+events-fit high b = (omega (arith, div-le-self (hertz 102000) (valueOf (b .settings) harm)), (tt, tt))
 
 module _ (x : Settings) (s : State) (a : Alike (s .settings) x) (k : keepsAll (s .settings) ≡ true) where
   takes-highest : takesFrequency s (highest x) ≡ true

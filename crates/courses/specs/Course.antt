@@ -1,17 +1,23 @@
--- A course through a script: document 01, "The script check".
+-- A course through a script. The term is document 01's, "The script check", which lays down what a course starts from,
+-- what happens before each line, and that no reply room is too small.
 use Prim.Native.Nat.{ℕ, zero, suc}
 use mathlib.Core.Bool.{Bool, true, false, cond}
 use mathlib.Core.Path.{_≡_}
 use mathlib.Core.List.{List, [], _∷_}
 use lib.Dec.{leb}
-use lib.ListN.{length}
+use lib.ListN.{length, replicate}
 use Rattle.event.specs.declared.Event.{Event}
+use Rattle.queue.specs.Queue.{lineLimit}
 use Rattle.line.specs.Line.{lineOf}
+use Rattle.refusal.specs.declared.Outcome.{Outcome}
+use Rattle.refusal.specs.declared.Outcome.the-variants.{Done}
 use Rattle.refusal.specs.declared.Answer.{Answer}
 use Rattle.refusal.specs.declared.Answer.the-variants.{Passed}
+use Rattle.module.specs.Start.{unitKnown, startOf}
 use Rattle.module.specs.Module.{allowedModule}
 use Rattle.module.specs.declared.Module.{Module}
 use Rattle.lockin.specs.Calls.{Call, EventCall, lineCall, eventCall}
+use Rattle.demands.specs.Representable.{Every, Word, Count, ModuleFits, EventFits}
 
 -- a module and its two traces: what a call is given, and what it returns or leaves
 pub record World : Type 0 where
@@ -19,13 +25,42 @@ pub record World : Type 0 where
   pub one : List ℕ
   pub two : List ℕ
 
+-- a module and traces that there can be: values, words and bytes of the sizes that the machine has for them
+pub record WorldFits (w : World) : Type 0 where
+  pub core : ModuleFits (w .core)
+  pub one : Every Word (w .one)
+  pub two : Every Word (w .two)
+
+-- ---- the start
+
+-- what the start answers over two traces of a length, with any serial number and port that a start takes
+abbrev pub StartAnswers : ℕ → Outcome → Type 0
+StartAnswers capacity o =
+    (serial port : ℕ) → unitKnown serial port ≡ true → startOf serial port capacity capacity .outcome ≡ o
+
+-- a module of a capacity can be started
+abbrev pub Startable : ℕ → Type 0
+Startable capacity = StartAnswers capacity Done
+
+-- a module as the start makes it, with serial number 0 and port GPIB, and two traces with all words 0
+unfoldable pub freshWorld : ℕ → World
+freshWorld capacity =
+    record {
+      core = startOf 0 1 capacity capacity .after;
+      one = replicate capacity 0;
+      two = replicate capacity 0;
+    }
+
+-- ---- the calls
+
+-- a line handed over whole, in a reply room of so many bytes, and an event
 abbrev pub lineIn : ℕ → List ℕ → World → Call
 lineIn room line w = lineCall room line (w .core) (w .one) (w .two)
 
 abbrev pub eventIn : Event → World → EventCall
 eventIn e w = eventCall e (w .core) (w .one) (w .two)
 
--- "each later one those the call before returned or left"
+-- what a call leaves, which the next one is given: after a line, after an event, after several events in turn
 unfoldable pub afterLine : ℕ → List ℕ → World → World
 afterLine room line w =
     let c = lineIn room line w in
@@ -40,40 +75,56 @@ unfoldable pub afterEvents : List Event → World → World
 afterEvents [] w = w
 afterEvents (e ∷ es) w = afterEvents es (afterEvent e w)
 
--- before a line: "a finite list of events, those answered 6 and measured frequencies ignored or not taken included"; with it "a reply room of its own"
+-- what a course has for a line: the events before it, those that are refused or change nothing among them, and the
+-- line's reply room
 pub record Gap : Type 0 where
   pub events : List Event
   pub room : ℕ
 
--- "for each line of the script"
+-- one for each line of a script
 abbrev pub Gaps : List (List ℕ) → Type 0
 Gaps [] = Unit {0}
 Gaps (l ∷ ls) = Gap × Gaps ls
 
--- "For each line in turn its events are called, then the line is handed over whole": what the line is called with, and what is left after it
+-- what a line is called with, once its events have happened, and what is left after it
 abbrev pub before : Gap → World → World
 before g w = afterEvents (g .events) w
 
 abbrev pub after : Gap → List ℕ → World → World
 after g line w = afterLine (g .room) line (before g w)
 
--- "never too small (no 4)": whether a line that runs is refused by 4, which drops its rest
+-- whether the room is too small for a line that runs: then 4 refuses a command of it and drops the rest
 unfoldable pub crowded : ℕ → List ℕ → World → Bool
-crowded room line w = cond (leb (length line) 256) (lineOf room line (w .core .state) (w .one) (w .two) .dropped) false
+crowded room line w =
+    cond (leb (length line) lineLimit) (lineOf room line (w .core .state) (w .one) (w .two) .dropped) false
 
+-- no room is too small
 abbrev pub Roomy : (ls : List (List ℕ)) → Gaps ls → World → Type 0
 Roomy [] g w = Unit {0}
 Roomy (l ∷ ls) g w = (crowded (g .0 .room) l (before (g .0) w) ≡ false) × Roomy ls (g .1) (after (g .0) l w)
 
--- "An allowed state has the capacity told and is not refused by 11; it comes with two traces of that length, any words in them. A course is an allowed
--- state and, for each line of the script, a finite list of events"
+-- events that there can be, and a room that is the length of a buffer that there can be; then for each line
+pub record GapFits (g : Gap) : Type 0 where
+  pub events : Every EventFits (g .events)
+  pub room : Count (g .room)
+
+abbrev pub GapsFit : (ls : List (List ℕ)) → Gaps ls → Type 0
+GapsFit [] g = Unit {0}
+GapsFit (l ∷ ls) g = GapFits (g .0) × GapsFit ls (g .1)
+
+-- ---- the course
+
+-- A module that 11 does not refuse, of the capacity told, and two traces of that length; for each line, events and a
+-- reply room that is not too small. The module, the traces, the events and the rooms are ones that there can be.
 pub record Course (capacity : ℕ) (lines : List (List ℕ)) : Type 0 where
   pub start : World
   pub allowed : allowedModule (start .core) ≡ true
   pub told : start .core .state .unit .capacity ≡ capacity
   pub first : length (start .one) ≡ capacity
   pub second : length (start .two) ≡ capacity
+  pub fits : WorldFits start
   pub gaps : Gaps lines
+  pub gaps-fit : GapsFit lines gaps
   pub rooms : Roomy lines gaps start
 
 -- the answer of the line behind so many others

@@ -136,18 +136,24 @@ bits-free BadTraces = refl
 bits-free BadStart = refl
 bits-free BadState = refl
 
-capacity-known : (u : Unit) → keepsUnit u ≡ true → 1 ≤ u .capacity
+-- a unit's capacity, from 1 to 16383
+pub record Capacity (u : Unit) : Type 0 where
+  pub least : 1 ≤ u .capacity
+  pub most : u .capacity ≤ 16383
+
+pub capacity-known : (u : Unit) → keepsUnit u ≡ true → Capacity u
 unfolding keepsUnit
 capacity-known u k =
     let one = and-eq-true-iff (leb (u .serial) 99999) (leb (u .port) 1 && (leb 1 (u .capacity) && leb (u .capacity) 16383)) .0 k in
     let two = and-eq-true-iff (leb (u .port) 1) (leb 1 (u .capacity) && leb (u .capacity) 16383) .0 (one .1) in
-    leb-true 1 (u .capacity) (and-eq-true-iff (leb 1 (u .capacity)) (leb (u .capacity) 16383) .0 (two .1) .0)
+    let both = and-eq-true-iff (leb 1 (u .capacity)) (leb (u .capacity) 16383) .0 (two .1) in
+    record { least = leb-true 1 (u .capacity) (both .0); most = leb-true (u .capacity) 16383 (both .1) }
 
 -- a fresh state's settings, external frequency and storage
 pub fresh-allowed : (r : Registers) (e : Enables) (l : Pair) (u : Unit) → status.keepsOf r e ≡ true → keepsLatest l ≡ true → keepsUnit u ≡ true
     → allowedState (record { settings = startSettings; moving = startMoving; registers = r; enables = e; latest = l; unit = u }) ≡ true
 unfolding allowedState keepsParts
-fresh-allowed r e l u p q k = rw (start-allowed, emptied-keeps (u .capacity) (valueOf startSettings send) (capacity-known u k), p, q) k
+fresh-allowed r e l u p q k = rw (start-allowed, emptied-keeps (u .capacity) (valueOf startSettings send) (capacity-known u k .least), p, q) k
 
 module _ (s : State) (h : allowedState s ≡ true) where
   -- other settings and enables, the detection frequency moved
@@ -275,7 +281,7 @@ module _ (s : State) (h : allowedState s ≡ true) where
       (paused-keeps (s .moving .storage) (s .unit .capacity) (valueOf (s .settings) send) (sound s h .stored)) (sound s h .bits)
   act-stays Empty =
       rest-stays storage.emptiedStorage (s .registers)
-      (emptied-keeps (s .unit .capacity) (valueOf (s .settings) send) (capacity-known (s .unit) (sound s h .unit))) (sound s h .bits)
+      (emptied-keeps (s .unit .capacity) (valueOf (s .settings) send) (capacity-known (s .unit) (sound s h .unit) .least)) (sound s h .bits)
   act-stays Trigger = trigger-stays
 
   -- a command that the state allows

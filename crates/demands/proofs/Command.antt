@@ -17,18 +17,25 @@ use Rattle.answer.specs.Reply.{replyOf}
 use Rattle.line.specs.Perform.{Effect, refusedBy, nothing, doneBy, performed, commandOf}
 use Rattle.demands.proofs.Sane.{Sane, SaneParsed}
 
-module _ (room : ℕ) (waiting : Bool) (s : State) (one two : List ℕ) (P : Effect → Type 0)
-    (none : P (nothing s one two))
-    (refused : (r : Refusal) → meaningOf r .number ≤ 4 → P (refusedBy r s one two))
-    (done : (kind : Kind) → Sane kind → allowsOf (s .settings) (s .moving) kind ≡ true → P (doneBy kind (replyOf kind s waiting one two) s one two))
-  where
-    pub command-by : (p : Parsed) → SaneParsed p → P (commandOf room waiting p s one two)
-    unfolding commandOf performed
-    command-by Empty k = none
-    command-by (Refused r) k = refused r (omega arith)
-    command-by (Taken c) k = by (allowsOf (s .settings) (s .moving) (c .kind)) (fitsIn (replyOf (c .kind) s waiting one two) room) refl where
-      by : (a f : Bool) → allowsOf (s .settings) (s .moving) (c .kind) ≡ a
-          → P (cond a (cond f (doneBy (c .kind) (replyOf (c .kind) s waiting one two) s one two) (refusedBy NoRoom s one two)) (refusedBy NotAllowed s one two))
-      by true true p = done (c .kind) k p
-      by true false p = refused NoRoom (omega arith)
-      by false f p = refused NotAllowed (omega arith)
+module _ (room : ℕ) (waiting : Bool) (s : State) (one two : List ℕ) (P : Effect → Type 0) where
+  -- a command that was read is refused by 3 or 4, or is done
+  pub performed-by : (kind : Kind) → ((r : Refusal) → meaningOf r .number ≤ 4 → P (refusedBy r s one two))
+      → (allowsOf (s .settings) (s .moving) kind ≡ true → P (doneBy kind (replyOf kind s waiting one two) s one two))
+      → P (performed room waiting kind s one two)
+  unfolding performed
+  performed-by kind refused done = by (allowsOf (s .settings) (s .moving) kind) (fitsIn (replyOf kind s waiting one two) room) refl where
+    by : (a f : Bool) → allowsOf (s .settings) (s .moving) kind ≡ a
+        → P (cond a (cond f (doneBy kind (replyOf kind s waiting one two) s one two) (refusedBy NoRoom s one two)) (refusedBy NotAllowed s one two))
+    by true true p = done p
+    by true false p = refused NoRoom (omega arith)
+    by false f p = refused NotAllowed (omega arith)
+
+  module _ (none : P (nothing s one two))
+      (refused : (r : Refusal) → meaningOf r .number ≤ 4 → P (refusedBy r s one two))
+      (done : (kind : Kind) → Sane kind → allowsOf (s .settings) (s .moving) kind ≡ true → P (doneBy kind (replyOf kind s waiting one two) s one two))
+    where
+      pub command-by : (p : Parsed) → SaneParsed p → P (commandOf room waiting p s one two)
+      unfolding commandOf
+      command-by Empty k = none
+      command-by (Refused r) k = refused r (omega arith)
+      command-by (Taken c) k = performed-by (c .kind) refused (done (c .kind) k)

@@ -44,7 +44,7 @@ use Rattle.demands.specs.Demand2.{Address, atEntry, atEnable, plainly, c
 use Rattle.demands.specs.Demand2.{valuesAt, replyTo, Ready, answered, CanRefuse, SentBack, taken, refused}
 use Rattle.demands.specs.Demand2.{Internal, Settable, RoundTrip, Demand2}
 use Rattle.demands.proofs.Meanings.{name-of-one, name-of-channel, name-of-pair, name-of-enable}
-use Rattle.demands.proofs.Says.{Says, said-call}
+use Rattle.demands.proofs.Says.{Says, said-call, asked-call}
 use Rattle.demands.proofs.Parsing.{one-asked, one-sent, channel-asked, channel-sent, pair-asked, pair-sent}
 use Rattle.demands.proofs.Parsing.{enable-asked, enable-sent}
 use Rattle.demands.proofs.Kept.{kept-value, now-kept, behind-is, value-after, pair-first, pair-second}
@@ -59,16 +59,28 @@ data Quiet : QueryArgument → Type 0 where
   asPair : (entry : ℕ) → Quiet (query.Pair entry)
   asEnable : (which : Register) → Quiet (query.Enable which)
 
-module _ (room : ℕ) (s : State) (one two : List ℕ) where
-  quiet-query : (q : QueryArgument) → Quiet q → length (endedText q s false) ≤ room →
-      performed room false (Query q) s one two
-      ≡ record { state = s; one = one; two = two; out = endedText q s false; outcome = Done }
-  unfolding performed allowsOf queryAllowed replyOf queryReply fitsIn doneBy stateAfter changedBy
-      settingsAfter storageAfter externalAfter movingAfter registersAfter registersAsked enablesAfter storedIn
-  quiet-query _ (asValue entry) h = rw (le-leb (length (endedText (query.Value entry) s false)) room h) refl
-  quiet-query _ (asPair entry) h = rw (le-leb (length (endedText (query.Pair entry) s false)) room h) refl
-  quiet-query _ (asEnable which) h = rw (le-leb (length (endedText (query.Enable which) s false)) room h) refl
+module _ (s : State) where
+  quiet-same : (q : QueryArgument) → Quiet q → stateAfter (Query q) s ≡ s
+  unfolding stateAfter changedBy settingsAfter movingAfter externalAfter storageAfter registersAfter registersAsked
+      enablesAfter
+  quiet-same _ (asValue entry) = refl
+  quiet-same _ (asPair entry) = refl
+  quiet-same _ (asEnable which) = refl
 
+  quiet-allowed : (q : QueryArgument) → Quiet q → queryAllowed (s .moving) q ≡ true
+  unfolding queryAllowed
+  quiet-allowed _ (asValue entry) = refl
+  quiet-allowed _ (asPair entry) = refl
+  quiet-allowed _ (asEnable which) = refl
+
+  quiet-reply : (q : QueryArgument) → Quiet q → (one two : List ℕ) →
+      queryReply q s false one two ≡ textOf q s false ++ (endOf (s .unit .port) ∷ [])
+  unfolding queryReply endedText
+  quiet-reply _ (asValue entry) one two = refl
+  quiet-reply _ (asPair entry) one two = refl
+  quiet-reply _ (asEnable which) one two = refl
+
+module _ (room : ℕ) (s : State) (one two : List ℕ) where
   -- a set, by whether the state allows it
   set-performed : (a : SetArgument) → performed room false (Set a) s one two
       ≡ cond (setAllowed (s .settings) (s .moving) a)
@@ -202,17 +214,15 @@ module _ (s : State) (ok : allowedState s ≡ true) (fits : StateFits s) where
 -- ---- the same over the calls
 
 module _ (a : Address) (m : Module) (one two : List ℕ) (ready : Ready m one two) (trip : Trip a (m .state)) where
-  reply-length : length (endedText (trip .query) (m .state) false) ≡ length (replyTo a (m .state)) + 1
-  unfolding endedText
-  reply-length = rw (trip .text) (length-append (replyTo a (m .state)) (endOf (m .state .unit .port) ∷ []))
-
-  asked-call : (room : ℕ) → length (replyTo a (m .state)) + 1 ≤ room →
+  asked-here : (room : ℕ) → length (replyTo a (m .state)) + 1 ≤ room →
       lineCall room (a .query) m one two
       ≡ answered (replyTo a (m .state) ++ (endOf (m .state .unit .port) ∷ [])) m one two
-  asked-call room h =
-      said-call (a .query) (Query (trip .query)) (trip .asked) room m one two (ready .passes)
-      ∙ rw (quiet-query room (m .state) one two (trip .query) (trip .quiet) (omega (arith, reply-length)))
-      (unfold afterOf firstOf drops endedText in rw (trip .text) refl)
+  asked-here room h =
+      let end = endOf (m .state .unit .port) ∷ [] in
+      asked-call (a .query) (trip .query) (trip .asked) room m one two (ready .passes) (replyTo a (m .state) ++ end)
+      (quiet-same (m .state) (trip .query) (trip .quiet)) (quiet-allowed (m .state) (trip .query) (trip .quiet))
+      (quiet-reply (m .state) (trip .query) (trip .quiet) one two ∙ ap (λ t. t ++ end) (trip .text))
+      (rw (length-append (replyTo a (m .state)) end) h)
 
   sent-call : (room : ℕ) (t : Module) (first second : List ℕ) → Ready t first second →
       SentBack (a .holds) (valuesAt (m .state) (a .holds)) t first second
@@ -248,7 +258,7 @@ module _ (a : Address) (m : Module) (one two : List ℕ) (ready : Ready m one tw
       (unfold afterOf firstOf drops in refl)
 
   round-trip : RoundTrip a m one two
-  round-trip = record { asked = asked-call; sent = sent-call; back = back-call }
+  round-trip = record { asked = asked-here; sent = sent-call; back = back-call }
 
 ready-allowed : (m : Module) (one two : List ℕ) → Ready m one two → allowedState (m .state) ≡ true
 unfolding allowedModule

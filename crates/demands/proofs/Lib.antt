@@ -16,3 +16,8 @@ pub mod Parsing
 pub mod Entries
 pub mod Same
 pub mod Demand2
+pub mod Slots
+pub mod History
+pub mod Replies
+pub mod Trigger
+pub mod Points

@@ -17,14 +17,15 @@ use Rattle.text.proofs.Length.{plain-length, signed-length}
 use Rattle.text.proofs.Again.{read-again}
 use Rattle.name.specs.Names.{meaningOf}
 use Rattle.name.specs.declared.Register.{Register}
+use Rattle.name.specs.declared.Form.{Form}
 use Rattle.name.specs.declared.Meaning.{Meaning}
-use Rattle.name.specs.declared.Meaning.the-variants.{Setting, Channel, ChannelPair, Enable}
+use Rattle.name.specs.declared.Meaning.the-variants.{Setting, Channel, ChannelPair, Enable, Trace}
 use Rattle.settings.specs.Table.{entries, rowOf}
 use Rattle.settings.specs.Setting.{settingOf}
 use Rattle.settings.specs.Allowed.{keeps}
 use Rattle.settings.proofs.Rows.{row-size, row-decimals}
 use Rattle.command.specs.Arguments.{comma, arguments}
-use Rattle.command.specs.Parsed.{parsedOf, taken, wholeRange, wholeOf, one, two, three, alone, setWith, queryWith, setSetting, setChannel, setChannelPair, setEnable, queryEnable, queryChannel, queryChannelPair}
+use Rattle.command.specs.Parsed.{parsedOf, taken, wholeRange, wholeOf, one, two, three, alone, setWith, queryWith, setSetting, setChannel, setChannelPair, setEnable, queryEnable, queryChannel, queryChannelPair, queryTrace}
 use Rattle.command.proofs.Exact.{whole-is}
 use Rattle.command.specs.declared.SetArgument.the-variants as set
 use Rattle.command.specs.declared.QueryArgument.the-variants as query
@@ -54,7 +55,7 @@ module _ (name : List ℕ) (n : Name name) (m : Meaning) (means : meaningOf name
       let c = all-append inCommand name text (n .bytes) b in
       record { short = rw length-append (omega (arith, n .four)); kept = cleaned-same (name ++ text) c; single = parts-free inCommand 59 refl (name ++ text) c; read = e }
 
-  query-says : (args : List ℕ) → length args ≤ 4 → all inArguments args ≡ true → queryWith m (arguments args) ≡ taken kind → Says (name ++ (63 ∷ args)) kind
+  query-says : (args : List ℕ) → length args ≤ 251 → all inArguments args ≡ true → queryWith m (arguments args) ≡ taken kind → Says (name ++ (63 ∷ args)) kind
   unfolding begins
   query-says args l b e =
       says (63 ∷ args) (omega arith) (in-command args b) (parsed-name name (63 ∷ args) (n .four) ∙ rw means e)
@@ -71,15 +72,15 @@ plain-signed i =
     rw (le-ltb i 0 (omega arith), fixed-plain 0 (distance 0 i) refl, e)
 
 record Whole (low high i : ℕ) : Type 0 where
-  short : length (plain i) ≤ 4
+  short : length (plain i) ≤ 5
   number : isNumber (plain i) ≡ true
   value : wholeOf low high (plain i) ≡ Value i
 
-whole-again : (low high i : ℕ) → low ≤ i → i ≤ high → high ≤ 9999 → Whole low high i
+whole-again : (low high i : ℕ) → low ≤ i → i ≤ high → high ≤ 99999 → Whole low high i
 whole-again low high i some most few =
     let r = read-as 0 (plain i) (whole 0 i) (rw (plain-signed i) (read-again 0 0 i (omega arith) (omega arith) (omega arith))) in
     record {
-      short = plain-length 4 i (omega arith) (omega arith);
+      short = plain-length 5 i (omega arith) (omega arith);
       number = r .number;
       value =
           sym (whole-is low high (omega arith) (plain i)) ∙ ap (takenOf (wholeRange low high)) (r .kept)
@@ -120,6 +121,13 @@ text-two x y b c = parts-joined inNumber comma refl x y b ∙ ap (λ l. x ∷ l)
 joined-some : (x y : List ℕ) → 1 ≤ length (x ++ comma ∷ y)
 joined-some x y = rw length-append (omega arith)
 
+text-three : (x y z : List ℕ) → all inNumber x ≡ true → all inNumber y ≡ true → all inNumber z ≡ true →
+    arguments (x ++ comma ∷ (y ++ comma ∷ z)) ≡ x ∷ y ∷ z ∷ []
+text-three x y z b c d =
+    let rest = y ++ comma ∷ z in
+    arguments-some (x ++ comma ∷ rest) (joined-some x rest) ∙ parts-joined inNumber comma refl x rest b
+    ∙ ap (λ l. x ∷ l) (text-two y z c d)
+
 joined-bytes : (x y : List ℕ) → all inNumber x ≡ true → all inArguments y ≡ true → all inArguments (x ++ comma ∷ y) ≡ true
 joined-bytes x y b c = all-append inArguments x (comma ∷ y) (in-arguments x b) c
 
@@ -156,7 +164,7 @@ module _ (name : List ℕ) (n : Name name) where
       unfolding queryWith queryChannel one
       channel-asked =
           let c = channel-again channels i some most few in
-          query-says name n (Channel base channels) means (Query (query.Value (base + (i - 1)))) (plain i) (c .short) (in-arguments (plain i) (plain-bytes i))
+          query-says name n (Channel base channels) means (Query (query.Value (base + (i - 1)))) (plain i) (omega arith) (in-arguments (plain i) (plain-bytes i))
           (rw (text-one (plain i) (plain-some i) (plain-bytes i), c .number, c .value))
 
       pub channel-sent : (v : ℕ) → Alike (base + (i - 1)) base → keeps (base + (i - 1)) v ≡ true →
@@ -177,7 +185,7 @@ module _ (name : List ℕ) (n : Name name) where
       unfolding queryWith queryChannelPair one
       pair-asked =
           let c = channel-again channels i some most few in
-          query-says name n (ChannelPair base channels) means (Query (query.Pair (base + 2 * (i - 1)))) (plain i) (c .short) (in-arguments (plain i) (plain-bytes i))
+          query-says name n (ChannelPair base channels) means (Query (query.Pair (base + 2 * (i - 1)))) (plain i) (omega arith) (in-arguments (plain i) (plain-bytes i))
           (rw (text-one (plain i) (plain-some i) (plain-bytes i), c .number, c .value))
 
       pub pair-sent : (v w : ℕ) → Alike (base + 2 * (i - 1)) base → Alike (base + 2 * (i - 1) + 1) (base + 1) →
@@ -192,10 +200,38 @@ module _ (name : List ℕ) (n : Name name) where
           let c = channel-again channels i some most few in
           let p = fits-alike e base v a h in
           let q = fits-alike (e + 1) (base + 1) w b k in
-          let m : arguments (plain i ++ comma ∷ rest) ≡ plain i ∷ x ∷ y ∷ [] =
-          arguments-some (plain i ++ comma ∷ rest) (joined-some (plain i) rest) ∙ parts-joined inNumber comma refl (plain i) rest (plain-bytes i)
-          ∙ ap (λ l. plain i ∷ l) (text-two x y (written-bytes e v) (written-bytes (e + 1) w)) in
           set-says name n (ChannelPair base channels) means (Set (set.Pair e v w)) (plain i ++ comma ∷ rest)
           (rw (length-append, length-append) (omega (arith, c .short, written-short e v h, written-short (e + 1) w k)))
           (joined-bytes (plain i) rest (plain-bytes i) (joined-bytes x y (written-bytes e v) (in-arguments y (written-bytes (e + 1) w))))
-          (rw (m, c .number, p .number, q .number, c .value, p .value, q .value))
+          (rw (
+            text-three (plain i) x y (plain-bytes i) (written-bytes e v) (written-bytes (e + 1) w),
+            c .number,
+            p .number,
+            q .number,
+            c .value,
+            p .value,
+            q .value,
+          ))
+
+  -- a trace query
+  pub trace-asked : (form : Form) (t bin count : ℕ) → meaningOf name ≡ Trace form → 1 ≤ t → t ≤ 2 → bin ≤ 16383 → 1 ≤ count →
+      count ≤ 16383 → Says (name ++ (63 ∷ (plain t ++ comma ∷ (plain bin ++ comma ∷ plain count)))) (Query (query.Trace form t bin count))
+  unfolding queryWith queryTrace three
+  trace-asked form t bin count means low high far some most =
+      let x = whole-again 1 2 t low high (omega arith) in
+      let y = whole-again 0 16383 bin (omega arith) far (omega arith) in
+      let z = whole-again 1 16383 count some most (omega arith) in
+      let rest = plain bin ++ comma ∷ plain count in
+      query-says name n (Trace form) means (Query (query.Trace form t bin count)) (plain t ++ comma ∷ rest)
+      (rw (length-append, length-append) (omega arith))
+      (joined-bytes (plain t) rest (plain-bytes t)
+      (joined-bytes (plain bin) (plain count) (plain-bytes bin) (in-arguments (plain count) (plain-bytes count))))
+      (rw (
+        text-three (plain t) (plain bin) (plain count) (plain-bytes t) (plain-bytes bin) (plain-bytes count),
+        x .number,
+        y .number,
+        z .number,
+        x .value,
+        y .value,
+        z .value,
+      ))

@@ -1,7 +1,7 @@
 -- A line that is one command: what a call with it does. Assumes nothing.
 use Prim.Native.Nat.{ℕ, _≤_}
 use mathlib.Core.Bool.{Bool, true, false, cond}
-use mathlib.Core.Path.{_≡_, refl}
+use mathlib.Core.Path.{_≡_, refl, _∙_}
 use mathlib.Core.List.{List, [], _∷_}
 use native.Mathlib.Nat.{sub-zero}
 use lib.Dec.{leb}
@@ -9,15 +9,26 @@ use lib.ListN.{length}
 use borrow.Author.Tests.{le-leb}
 use Rattle.divide.specs.Divide.{parts}
 use Rattle.clean.specs.Clean.{cleaned}
+use Rattle.refusal.specs.declared.Refusal.the-variants.{NotAllowed}
 use Rattle.refusal.specs.declared.Outcome.the-variants.{Done}
+use Rattle.refusal.specs.declared.Answer.the-variants.{Refused}
+use Rattle.refusal.specs.Answer.{firstOf, drops}
 use Rattle.command.specs.Parsed.{parsedOf, taken}
+use Rattle.command.specs.declared.QueryArgument.{QueryArgument}
 use Rattle.command.specs.declared.Kind.{Kind}
+use Rattle.command.specs.declared.Kind.the-variants.{Query}
+use Rattle.state.specs.Storing.{storedIn}
 use Rattle.state.specs.declared.State.{State}
-use Rattle.line.specs.Perform.{performed, commandOf}
+use Rattle.allow.specs.Allows.{queryAllowed, allowsOf}
+use Rattle.change.specs.Change.{storageAfter, stateAfter}
+use Rattle.reply.specs.Reply.{fitsIn}
+use Rattle.answer.specs.Reply.{queryReply, replyOf}
+use Rattle.line.specs.Perform.{doneBy, performed, commandOf}
 use Rattle.line.specs.Line.{Line, startLine, afterOf, stepOf, runAll, lineOf}
 use Rattle.module.specs.Module.{guardOf}
 use Rattle.module.specs.declared.Module.{Module}
 use Rattle.lockin.specs.Calls.{guarded, ran, wholeLine, lineCall}
+use Rattle.demands.specs.Demand2.{answered}
 
 -- a line that is one command and is refused by neither 1 nor 2: short enough, no byte of it dropped or changed, not
 -- divided, and taken
@@ -52,3 +63,20 @@ pub said-call : (text : List ℕ) (kind : Kind) → Says text kind → (room : �
     ≡ ran (afterOf (startLine (m .state) one two) (performed room false kind (m .state) one two)) (m .queue)
 said-call text kind says room m one two passes =
     rw (open-call room text m one two passes (says .short), said-line text kind says room (m .state) one two) refl
+
+module _ (text : List ℕ) (q : QueryArgument) (says : Says text (Query q)) (room : ℕ) (m : Module) (one two : List ℕ)
+    (passes : guardOf m (length one) (length two) ≡ Done)
+  where
+    -- a query that clears nothing, with room for its reply
+    pub asked-call : (out : List ℕ) → stateAfter (Query q) (m .state) ≡ m .state →
+        queryAllowed (m .state .moving) q ≡ true → queryReply q (m .state) false one two ≡ out → length out ≤ room →
+        lineCall room text m one two ≡ answered out m one two
+    unfolding performed allowsOf replyOf fitsIn doneBy storageAfter storedIn afterOf firstOf drops
+    asked-call out same allowed reply fits =
+        said-call text (Query q) says room m one two passes ∙ rw (allowed, reply, le-leb (length out) room fits, same)
+
+    -- a query that 3 refuses
+    pub asked-refused : queryAllowed (m .state .moving) q ≡ false →
+        lineCall room text m one two .told .answer ≡ Refused NotAllowed 1
+    unfolding performed allowsOf afterOf firstOf
+    asked-refused refused = rw (said-call text (Query q) says room m one two passes, refused)

@@ -36,8 +36,8 @@ use Rattle.demands.proofs.States.{start-allowed, states-stay}
 
 pub record Passes (m : Module) (first second : ℕ) : Type 0 where
   pub allowed : allowedModule m ≡ true
-  first-fits : eqb first (m .state .unit .capacity) ≡ true
-  second-fits : eqb second (m .state .unit .capacity) ≡ true
+  pub first-fits : eqb first (m .state .unit .capacity) ≡ true
+  pub second-fits : eqb second (m .state .unit .capacity) ≡ true
 
 pub refused-never : {A : Type 0} (r : Refusal) → Refused r ≡ Done → A
 refused-never r p = let z : _≡_ {A = ℕ} 0 1 = cc in absurd (omega arith)
@@ -92,7 +92,7 @@ module _ (serial port first second : ℕ) (P : Started → Type 0)
     (done : unitKnown serial port ≡ true → tracesFit first second ≡ true
     → P (record { after = freshModule (record { serial = serial; port = port; capacity = first }); outcome = Done }))
   where
-    start-by : P (startOf serial port first second)
+    pub start-by : P (startOf serial port first second)
     unfolding startOf
     start-by = by (unitKnown serial port) (tracesFit first second) refl refl where
       by : (a b : Bool) → unitKnown serial port ≡ a → tracesFit first second ≡ b

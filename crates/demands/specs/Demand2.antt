@@ -1,10 +1,8 @@
 -- Demand 2: what the query of a setting replies, sent back, sets the same value. Over the call with a whole line, for
--- every
--- setting, enable and channel, in every module that refusals 11 and 9 let pass. Document 01, "Settings".
+-- every setting, enable and channel, in every module that refusals 11 and 9 let pass. Document 01, "Settings".
 --
 -- Document 01 names five hollow cores that this demand shuts out; each is shut out by a claim on the calls and is a
--- wrong
--- program under crates/ besides:
+-- wrong program under crates/ besides:
 -- - one that refuses everything, by `asked` and `back` below; module/must-fail/refuses_everything,
 -- - one that replies alike to all, by `sent`: a reply tells the values; reply_text/must-fail/replies_alike,
 -- - one that accepts and keeps nothing, by `sent`; change/must-fail/keeps_nothing,

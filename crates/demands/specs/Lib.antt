@@ -5,3 +5,4 @@ pub mod Demand1
 pub mod Written
 pub mod Demand2
 pub mod Lines
+pub mod Points

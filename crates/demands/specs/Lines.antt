@@ -5,6 +5,7 @@ use mathlib.Core.Bool.{cond}
 use mathlib.Core.Path.{_≡_}
 use mathlib.Core.List.{List, [], _∷_, _++_}
 use lib.ListN.{length}
+use Rattle.clean.specs.Clean.{lineLimit}
 use Rattle.clean.specs.Texts.{semicolon, textsOf}
 use Rattle.refusal.specs.declared.Outcome.the-variants.{Done}
 use Rattle.refusal.specs.declared.Answer.{Answer}
@@ -50,5 +51,5 @@ pub record InTurn (room : ℕ) (x y : List ℕ) (m : Module) (one two : List ℕ
 
 abbrev pub SeveralCommands : Type 0
 SeveralCommands =
-    (room : ℕ) (x y : List ℕ) → length (x ++ semicolon ∷ y) ≤ 256 → (m : Module) (one two : List ℕ) →
+    (room : ℕ) (x y : List ℕ) → length (x ++ semicolon ∷ y) ≤ lineLimit → (m : Module) (one two : List ℕ) →
     guardOf m (length one) (length two) ≡ Done → InTurn room x y m one two

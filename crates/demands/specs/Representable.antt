@@ -1,8 +1,6 @@
 -- What the machine can hold: the modules, traces and events that there can be. The definitions of the calls speak of
--- numbers without end; the
--- fields of a module, the words of a trace and the values of an event have the sizes that are told here, so a claim
--- that there is such a module, trace
--- or event asks for these too.
+-- numbers without end; the fields of a module, the words of a trace and the values of an event have the sizes that are
+-- told here, so a claim that there is such a module, trace or event asks for these too.
 use Prim.Native.Nat.{ℕ, _^_, _<_}
 use mathlib.Core.Path.{_≡_}
 use mathlib.Core.List.{List, [], _∷_}
@@ -10,9 +8,6 @@ use lib.ListN.{length}
 use Rattle.settings.specs.Table.{entries}
 use Rattle.status.specs.declared.Registers.{Registers}
 use Rattle.status.specs.declared.Enables.{Enables}
-use Rattle.storage.specs.declared.Storage.{Storage}
-use Rattle.state.specs.declared.Pair.{Pair}
-use Rattle.state.specs.declared.Unit.{Unit as ModuleUnit}
 use Rattle.state.specs.declared.State.{State}
 use Rattle.event.specs.declared.Event.{Event}
 use Rattle.event.specs.declared.Event.the-variants.{Latest, Tick, Trigger, Measured, Raised}
@@ -30,8 +25,8 @@ Word x = x < 2 ^ 32
 abbrev pub Count : ℕ → Type 0
 Count x = x < 2 ^ 64
 
--- every number of a list is such a one
-abbrev pub Every : (ℕ → Type 0) → List ℕ → Type 0
+-- everything in a list is such a one
+abbrev pub Every : {A : Type 0} → (A → Type 0) → List A → Type 0
 Every Such [] = Unit {0}
 Every Such (x ∷ xs) = Such x × Every Such xs
 
@@ -47,7 +42,7 @@ pub record EnablesFit (e : Enables) : Type 0 where
   pub lia : Byte (e .lia)
   pub errors : Byte (e .errors)
 
--- a value for each entry of the settings table; the external frequency; storage; the latest pair; what is fixed at
+-- a value for each entry of the settings table, the external frequency, storage, the latest pair and what is fixed at
 -- start
 pub record StateFits (s : State) : Type 0 where
   pub full : length (s .settings .values) ≡ entries

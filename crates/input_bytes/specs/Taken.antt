@@ -6,6 +6,7 @@ use mathlib.Core.List.{List, [], _∷_}
 use lib.Dec.{ltb, eqb}
 use lib.ListN.{length, set}
 use Rattle.number.specs.Number.{isDigit}
+use Rattle.settings.specs.Limits.{capacityMost}
 use Rattle.input_bytes.specs.declared.Input.{Input}
 
 abbrev pub lineFeed : ℕ
@@ -23,7 +24,8 @@ startInput = record { ended = false; capacity = 0; len = 0 }
 
 -- "the capacity, digits only": a number past every capacity stays, and what is no digit makes one
 unfoldable pub capacityAfter : ℕ → ℕ → ℕ
-capacityAfter b capacity = cond (ltb 16383 capacity) capacity (cond (isDigit b) (capacity * 10 + (b - 48)) 16384)
+capacityAfter b capacity =
+    cond (ltb capacityMost capacity) capacity (cond (isDigit b) (capacity * 10 + (b - 48)) (capacityMost + 1))
 
 unfoldable pub lineOneAfter : ℕ → Input → Input
 lineOneAfter b i =

@@ -1,9 +1,10 @@
 // The input of the programs over the script check, byte by byte: the capacity on line one, then the script.
 ghost use mathlib.Core.Path.{_≡_};
 ghost use Rattle.input_bytes.specs.Taken.{held, startInput, capacityAfter, lineOneAfter, scriptAfter, byteTaken, allTaken};
+use settings::Settings;
 
 // What a line one that is no number counts as: past every capacity.
-const NO_CAPACITY: u32 = settings::CAPACITY_MOST + 1;
+const NO_CAPACITY: u32 = Settings::CAPACITY_MOST + 1;
 
 // What has been read: whether line one has ended, the capacity on it, and how many bytes of the script there are.
 pub struct Input {
@@ -28,7 +29,7 @@ impl Input {
 fn capacity_after(capacity: u32, b: u8) -> u32
     ensures { λ r. ⌜ r ≡ capacityAfter b capacity ⌝ }
 {
-    if settings::CAPACITY_MOST < capacity {
+    if Settings::CAPACITY_MOST < capacity {
         return capacity;
     }
     match b {

@@ -7,24 +7,27 @@ use Rattle.refusal.specs.declared.Refusal.the-variants.{BadTraces, BadStart}
 use Rattle.refusal.specs.declared.Outcome.the-variants.{Done, Refused}
 use Rattle.state.specs.State.{startState}
 use Rattle.state.specs.declared.Unit.{Unit}
-use Rattle.queue.specs.Queue.{emptyQueue}
+use Rattle.state.specs.Allowed.{serialMost}
+use Rattle.settings.specs.Limits.{capacityLeast, capacityFits}
+use Rattle.queue.specs.Queue.{gpib, emptyQueue}
 use Rattle.module.specs.declared.Module.{Module}
 use Rattle.module.specs.declared.Started.{Started}
 
--- "serial over 99999 or port unknown": the ports are 0, RS232, and 1, GPIB
+-- "serial over 99999 or port unknown": the ports are RS232 and GPIB, as numbers
 unfoldable pub unitKnown : ℕ → ℕ → Bool
-unitKnown serial port = leb serial 99999 && leb port 1
+unitKnown serial port = leb serial serialMost && leb port gpib
 
 -- "traces unequal, empty, over 16383": the lengths of both
 unfoldable pub tracesFit : ℕ → ℕ → Bool
-tracesFit first second = eqb first second && (leb 1 first && leb first 16383)
+tracesFit first second = eqb first second && capacityFits first
 
 unfoldable pub freshModule : Unit → Module
 freshModule u = record { state = startState u; queue = emptyQueue }
 
 -- "a start refused by 10 or 9 gives serial 0, GPIB, capacity 1"
 abbrev pub refusedStart : Refusal → Started
-refusedStart r = record { after = freshModule (record { serial = 0; port = 1; capacity = 1 }); outcome = Refused r }
+refusedStart r =
+    record { after = freshModule (record { serial = 0; port = gpib; capacity = capacityLeast }); outcome = Refused r }
 
 -- "Order: 10, .., 9"; the traces are not written
 unfoldable pub startOf : ℕ → ℕ → ℕ → ℕ → Started

@@ -1,6 +1,7 @@
 // A module: its state and its queue; the start, the serial poll, and refusals 9, 10 and 11.
 ghost use mathlib.Core.Path.{_≡_};
 ghost use lib.ListN.{length};
+ghost use Rattle.queue.specs.Queue.{lineLimit};
 ghost use Rattle.queue.specs.Parts.{queueOf};
 ghost use Rattle.module.specs.Start.{unitKnown, tracesFit, freshModule, refusedStart, startOf};
 ghost use Rattle.module.specs.Module.{allowedModule, guardOf, statusBetween, pollOf};
@@ -9,6 +10,7 @@ use queue::Queue;
 use refusal::Outcome;
 use refusal::Refusal;
 use refusal::Told;
+use settings::Settings;
 use state::State;
 use state::Unit;
 use status::Poll;
@@ -49,8 +51,8 @@ pub fn unit_known(serial: u32, port: u32) -> bool
 pub fn traces_fit(first: usize, second: usize) -> bool
     ensures { λ r. ⌜ r ≡ tracesFit first second ⌝ }
 {
-    let least = settings::CAPACITY_LEAST as usize;
-    let most = settings::CAPACITY_MOST as usize;
+    let least = Settings::CAPACITY_LEAST as usize;
+    let most = Settings::CAPACITY_MOST as usize;
     (first == second) & ((least <= first) & (first <= most))
 }
 
@@ -71,7 +73,7 @@ pub fn refused_start(refusal: Refusal) -> Started
     let unit = Unit {
         serial: 0,
         port: state::GPIB,
-        capacity: 1,
+        capacity: Settings::CAPACITY_LEAST,
     };
     Started {
         after: fresh(unit),
@@ -102,7 +104,7 @@ pub fn start(serial: u32, port: u32, first: usize, second: usize) -> Started
 
 // Whether a module may have this state and a queue of these bytes, else refusal 11. The bytes are lent, not copied.
 pub fn allowed(s: State, bytes: &[u8; LINE], len: usize, dropping: bool) -> bool
-    requires { ⌜ length (now bytes) ≡ 256 ⌝ }
+    requires { ⌜ length (now bytes) ≡ lineLimit ⌝ }
     ensures { λ r. ⌜ r ≡ allowedModule (record { queue = queueOf (now (bytes .entry)) len dropping; state = s }) ⌝ }
 {
     state::allowed(s) & queue::keeps(bytes, len, dropping, s.unit.port)
@@ -117,7 +119,7 @@ pub fn guard(
     first: usize,
     second: usize,
 ) -> Outcome
-    requires { ⌜ length (now bytes) ≡ 256 ⌝ }
+    requires { ⌜ length (now bytes) ≡ lineLimit ⌝ }
     ensures { λ r. ⌜ r ≡ guardOf
         (record { queue = queueOf (now (bytes .entry)) len dropping; state = s }) first second ⌝ }
 {

@@ -1,14 +1,19 @@
 // The operations of docs/ops-protocol.md: what the fields of each ask for.
 ghost use mathlib.Core.Path.{_≡_};
-ghost use Prim.Native.Nat.{_<_};
+ghost use Prim.Native.Nat.{_+_, _<_};
 ghost use lib.ListN.{length};
+ghost use Rattle.settings.specs.Limits.{capacityMost};
+
+mod alter;
+
 use event::Event;
+use settings::Settings;
 use terminal::Decoded;
 use terminal::Number;
 
-// The longest trace; the largest reply buffer, one that is enough for most, and what each of their bytes is before the call; the largest byte; how many
-// traces there are.
-pub const SLOTS: u32 = 16384;
+// The longest trace, a point longer than a module's may be; the largest reply buffer, one that is enough for most, and
+// what each of their bytes is before the call; the largest byte; how many traces there are.
+pub const SLOTS: u32 = Settings::CAPACITY_MOST + 1;
 
 pub const ROOM: u32 = 131072;
 
@@ -25,15 +30,16 @@ const WORD: usize = 8;
 
 const BYTE: usize = 2;
 
-// The names of the operations, and what the fields of each are, at most so many: a number n, a trace's length s, a room r, a byte as a number b, an end
+// The names of the operations, and what the fields of each but the last are, at most so many: a number n, a trace's length s, a room r, a byte as a number b, an end
 // mark m, a trace t, a byte in hex h, a word in hex w, or bytes in hex x.
-const NAMES: [u8; 69] = *b"start line byte pair tick trigger measured raise poke dump check poll";
+const NAMES: [u8; 75] =
+    *b"start line byte pair tick trigger measured raise poke dump check poll alter";
 
 const KINDS: [u8; 48] = *b"nnssxr  hmr ww          n   bb  tnw     nx      ";
 
 const FIELDS: usize = 4;
 
-const OPERATIONS: usize = 12;
+const ALTER: usize = 12;
 
 // A line with more bytes is no operation.
 pub const LINE_LIMIT: usize = 131072;
@@ -55,14 +61,14 @@ pub fn small_reply_buffer() -> [u8; SMALL_ROOM] {
 }
 
 pub fn trace_buffer() -> [u32; SLOTS as usize]
-    ensures { λ r. ⌜ 16384 ≡ length r ⌝ }
+    ensures { λ r. ⌜ capacityMost + 1 ≡ length r ⌝ }
 {
     [0u32; SLOTS as usize]
 }
 
 // What an operation asks for: a start with its serial number, port and the lengths of the traces; a line with how many bytes it has and the room for its
 // reply; a byte with its end mark and the room for a reply; an event; a word for a slot of trace 1 or 2; the state as text; a serial poll; a script of so many bytes
-// checked at a capacity.
+// checked at a capacity; another value for a field of the state.
 pub enum Operation {
     Start(u32, u32, usize, usize),
     Line(usize, usize),
@@ -72,6 +78,7 @@ pub enum Operation {
     Dump,
     Poll,
     Check(u32, usize),
+    Alter(usize, u32),
     Wrong,
 }
 
@@ -189,12 +196,15 @@ fn made(number: usize, v: [u32; FIELDS]) -> Operation {
     }
 }
 
-// The operation that a text asks for. The bytes of a line or a script are put at the start of a buffer.
+// The operation that a text asks for. The bytes of a line, a script or a queue are put at the start of a buffer.
 pub fn operation_of(text: &[u8], bytes: &mut [u8]) -> Operation {
     let names = NAMES;
     let n = divide::span_of(text, b' ');
     let number = terminal::place_of(&names, &text[0..n]);
-    if OPERATIONS <= number {
+    if number == ALTER {
+        return alter::alter_of(terminal::rest_of(text, n + 1), bytes);
+    }
+    if ALTER < number {
         return Operation::Wrong;
     }
     let fields = fields_of(number, text, n + 1, bytes);

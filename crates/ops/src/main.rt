@@ -7,7 +7,7 @@ fn main() {
     let mut bytes = io::large_buffer();
     let mut one = operations::trace_buffer();
     let mut two = operations::trace_buffer();
-    let mut latest = calls::refused();
+    let mut latest = operation::first();
     let mut next = terminal::no_line();
     let mut turns = u64::MAX;
     while turns > 0 {

@@ -22,8 +22,11 @@ abbrev pub topByte : ℕ → ℕ
 topByte w = w / 16777216
 
 -- "Legal points have e at most 236."
+abbrev pub exponentMost : ℕ
+exponentMost = 236
+
 unfoldable pub isLegal : ℕ → Bool
-isLegal w = eqb (topByte w) 0 && leb (exponentOf w) 236
+isLegal w = eqb (topByte w) 0 && leb (exponentOf w) exponentMost
 
 -- "leading zeros of the magnitude of m give the float's exponent and the shift of its fraction": the place, from 0, of the highest set digit of a
 unfoldable pub highest : ℕ → ℕ

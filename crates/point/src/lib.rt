@@ -2,7 +2,7 @@
 ghost use mathlib.Core.Bool.{false};
 ghost use mathlib.Core.Path.{_≡_};
 ghost use Prim.Native.Nat.{_≤_, _<_};
-ghost use Rattle.point.specs.Point.{isLegal, isNegative, magnitudeOf, exponentOf, singleOf, floatOf};
+ghost use Rattle.point.specs.Point.{exponentMost, isLegal, isNegative, magnitudeOf, exponentOf, singleOf, floatOf};
 ghost use Rattle.point.specs.Bytes.{littleEndian};
 
 // A legal point's exponent is at most this.
@@ -21,7 +21,7 @@ fn exponent(word: u32) -> u32
     word / 65536 % 256
 }
 
-// Whether the word is a legal point: top byte 0, e at most 236.
+// Whether the word is a legal point: top byte 0, e at most MAX_EXPONENT.
 pub fn legal(word: u32) -> bool
     ensures { λ r. ⌜ r ≡ isLegal word ⌝ }
 {
@@ -48,7 +48,7 @@ fn magnitude(word: u32) -> u32
 // The single of value a * 2^(e - 124): the leading zeros of a give its exponent and the shift of its fraction.
 fn single(a: u32, e: u32) -> u32
     requires { ⌜ (0 < a) × (a ≤ 32768) ⌝ }
-    requires { ⌜ e ≤ 236 ⌝ }
+    requires { ⌜ e ≤ exponentMost ⌝ }
     ensures { λ r. ⌜ r ≡ singleOf false a e ⌝ }
 {
     let zeros = u32::leading_zeros(a);

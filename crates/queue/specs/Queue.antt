@@ -4,13 +4,17 @@ use mathlib.Core.Bool.{Bool, true, false, cond, not, _&&_, _||_}
 use mathlib.Core.List.{List, [], _∷_}
 use lib.Dec.{leb, ltb, eqb}
 use lib.ListN.{take, set, replicate}
+pub use Rattle.clean.specs.Clean.{lineLimit}
 use Rattle.queue.specs.declared.Queue.{Queue}
 use Rattle.queue.specs.declared.Ended.{Ended}
 use Rattle.queue.specs.declared.Ended.the-variants.{Nothing, Line, TooLong}
 
--- "A port is fixed at start: RS232 .. or GPIB": a port is a number, and RS232 is 0
+-- "A port is fixed at start: RS232 .. or GPIB": a port is a number
 abbrev pub rs232 : ℕ
 rs232 = 0
+
+abbrev pub gpib : ℕ
+gpib = 1
 
 -- LF and CR, as bytes
 abbrev pub lf : ℕ
@@ -18,10 +22,6 @@ lf = 10
 
 abbrev pub cr : ℕ
 cr = 13
-
--- "A line has at most 256 bytes before its end"
-abbrev pub lineLimit : ℕ
-lineLimit = 256
 
 -- the bytes that wait: the line so far
 abbrev pub waitingBytes : Queue → List ℕ

@@ -1,14 +1,16 @@
 // The queue of bytes that wait for their line's end.
 ghost use mathlib.Core.Path.{_≡_};
 ghost use mathlib.Core.Bool.{true, false};
-ghost use Prim.Native.Nat.{_≤_, min};
+ghost use Prim.Native.Nat.{_+_, _≤_, min};
 ghost use lib.ListN.{length, take, drop};
-ghost use Rattle.queue.specs.Queue.{emptyQueue, endsLine, isMarked, addedOf, fedOf, noEnd, keepsOf};
+ghost use Rattle.queue.specs.Queue.{lineLimit, emptyQueue, endsLine, isMarked, addedOf, fedOf, noEnd, keepsOf};
 ghost use Rattle.queue.specs.Parts.{queueOf, storedIn, Tells, EndNone};
 use clean::LINE;
 
-// The port RS232; any other number is GPIB.
-const RS232: u8 = 0;
+// The ports, as numbers.
+pub const RS232: u8 = 0;
+
+pub const GPIB: u8 = 1;
 
 // The first len bytes wait for their line's end; while dropping, bytes are dropped up to the line's end.
 pub struct Queue {
@@ -139,9 +141,9 @@ pub fn store(bytes: &mut [u8; LINE], at: usize, b: u8, stores: bool)
     }
 }
 
-// Where a line of so many bytes ends among 256 bytes.
+// Where a line of so many bytes ends among the queue's bytes.
 pub fn line_end(len: usize) -> usize
-    ensures { λ r. ⌜ r ≡ min len 256 ⌝ }
+    ensures { λ r. ⌜ r ≡ min len lineLimit ⌝ }
 {
     if len < LINE {
         return len;
@@ -151,7 +153,7 @@ pub fn line_end(len: usize) -> usize
 
 // Whether none of sixteen bytes ends a line. No byte ends the loop early: so all sixteen are tested at once.
 fn sixteen_end_none(bytes: &[u8; LINE], at: usize, port: u8) -> bool
-    requires { ⌜ at ≤ 240 ⌝ }
+    requires { ⌜ at + 16 ≤ lineLimit ⌝ }
     ensures { λ r. ⌜ (r ≡ true → EndNone port (now (bytes .entry)) at 16)
         × (EndNone port (now (bytes .entry)) at 16 → r ≡ true) ⌝ }
 {
@@ -164,6 +166,9 @@ fn sixteen_end_none(bytes: &[u8; LINE], at: usize, port: u8) -> bool
     none
 }
 
+// Where the last sixteen bytes begin.
+const LAST_SIXTEEN: usize = LINE - 16;
+
 // A place before which none of the first len bytes ends a line, found sixteen bytes at a time; it may lie past them.
 fn passed_over(bytes: &[u8; LINE], len: usize, port: u8) -> usize
     requires { ⌜ len ≤ length (now bytes) ⌝ }
@@ -172,7 +177,7 @@ fn passed_over(bytes: &[u8; LINE], len: usize, port: u8) -> usize
 {
     let mut i = 0;
     while i < len {
-        if 240 < i {
+        if LAST_SIXTEEN < i {
             return i;
         }
         if sixteen_end_none(bytes, i, port) {} else {
@@ -185,7 +190,7 @@ fn passed_over(bytes: &[u8; LINE], len: usize, port: u8) -> usize
 
 // Refusal 11's part: whether a state of the port may hold a queue of these bytes, which are lent and not copied.
 pub fn keeps(bytes: &[u8; LINE], len: usize, dropping: bool, port: u8) -> bool
-    requires { ⌜ length (now bytes) ≡ 256 ⌝ }
+    requires { ⌜ length (now bytes) ≡ lineLimit ⌝ }
     ensures { λ r. ⌜ r ≡ keepsOf (queueOf (now (bytes .entry)) len dropping) port ⌝ }
 {
     if LINE < len {

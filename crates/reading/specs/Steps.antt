@@ -44,14 +44,21 @@ abbrev pub loweredBy : Short → Exponent
 loweredBy (Of n) = Power 0 n
 loweredBy Long = Wrong
 
--- at most 99
+-- the most that two digits make
+abbrev pub shortMost : ℕ
+shortMost = 99
+
 abbrev pub TwoDigits : Short → Type 0
-TwoDigits (Of n) = n ≤ 99
+TwoDigits (Of n) = n ≤ shortMost
 TwoDigits Long = Unit
 
 abbrev pub Bounded : Exponent → Type 0
-Bounded (Power u d) = (u ≤ 99) × (d ≤ 99)
+Bounded (Power u d) = (u ≤ shortMost) × (d ≤ shortMost)
 Bounded Wrong = Unit
+
+-- no point is moved up by more places: two digits behind the E, and the decimals of an argument, a byte
+abbrev pub upMost : ℕ
+upMost = 400
 
 -- a number whose digits are front and back of the point, moved up and down by places
 abbrev pub moved : Bool → List ℕ → List ℕ → ℕ → ℕ → Exact

@@ -4,9 +4,9 @@ ghost use mathlib.Core.Bool.{true};
 ghost use mathlib.Core.List.{_++_};
 ghost use Prim.Native.Nat.{_+_, _*_, _≤_, min};
 ghost use lib.ListN.{length, getD, drop};
-ghost use Rattle.number.specs.Number.{allDigits};
+ghost use Rattle.number.specs.Number.{allDigits, digitLimit};
 ghost use Rattle.number.specs.Quantity.{cap, quantityOf, readOf};
-ghost use Rattle.reading.specs.Steps.{places, allZero, shortOf, exponentOf, raisedBy, loweredBy, TwoDigits, Bounded, moved, digitsOf, mantissaOf, unsignedOf};
+ghost use Rattle.reading.specs.Steps.{places, allZero, shortOf, exponentOf, raisedBy, loweredBy, TwoDigits, Bounded, moved, digitsOf, mantissaOf, unsignedOf, upMost};
 use number::CAP;
 use number::Quantity;
 use number::Reading;
@@ -87,7 +87,7 @@ fn whole_part(front: &[u8], back: &[u8], kept: usize) -> u64
 
 // Whether every digit from a place on is 0.
 fn zero_from(front: &[u8], back: &[u8], from: usize) -> bool
-    requires { ⌜ length (now front) + length (now back) ≤ 15 ⌝ }
+    requires { ⌜ length (now front) + length (now back) ≤ digitLimit ⌝ }
     ensures { λ r. ⌜ r ≡ allZero (drop from (now (front .entry) ++ now (back .entry))) ⌝ }
 {
     let n = front.len() + back.len();
@@ -105,7 +105,8 @@ fn zero_from(front: &[u8], back: &[u8], from: usize) -> bool
 
 // The digits before and after the point, which moves up and down by places, as a quantity.
 fn scaled(front: &[u8], back: &[u8], negative: bool, up: usize, down: usize) -> Quantity
-    requires { ⌜ (allDigits (now front ++ now back) ≡ true) × (length (now front) + length (now back) ≤ 15) × (up ≤ 400) ⌝ }
+    requires { ⌜ (allDigits (now front ++ now back) ≡ true)
+        × (length (now front) + length (now back) ≤ digitLimit) × (up ≤ upMost) ⌝ }
     ensures { λ r. ⌜ r ≡ quantityOf (moved negative (now (front .entry)) (now (back .entry)) up down) ⌝ }
 {
     let point = front.len() + up;
@@ -132,7 +133,7 @@ fn scaled(front: &[u8], back: &[u8], negative: bool, up: usize, down: usize) -> 
 
 // The digits before and after the point: 1 to 15 in all.
 fn read_digits(front: &[u8], back: &[u8], negative: bool, up: usize, down: usize) -> Reading
-    requires { ⌜ up ≤ 400 ⌝ }
+    requires { ⌜ up ≤ upMost ⌝ }
     ensures { λ r. ⌜ r ≡ digitsOf negative (now (front .entry)) (now (back .entry)) up down ⌝ }
 {
     let n = front.len() + back.len();
@@ -155,7 +156,7 @@ fn read_digits(front: &[u8], back: &[u8], negative: bool, up: usize, down: usize
 
 // The text before the E: digits with at most one point.
 fn read_mantissa(m: &[u8], negative: bool, up: usize, down: usize) -> Reading
-    requires { ⌜ up ≤ 400 ⌝ }
+    requires { ⌜ up ≤ upMost ⌝ }
     ensures { λ r. ⌜ r ≡ mantissaOf negative (now (m .entry)) up down ⌝ }
 {
     let p = divide::span_of(m, 46);

@@ -6,6 +6,7 @@ use lib.Dec.{eqb}
 use Rattle.divide.specs.Ascii.{bytes}
 use Rattle.settings.specs.Table.{freq, rowOf, behind, valueOf}
 use Rattle.settings.specs.Frequency.{inForce}
+use Rattle.queue.specs.Queue.{rs232, lf, cr}
 use Rattle.storage.specs.Storage.{atRest}
 use Rattle.status.specs.Bits.{bitOf}
 use Rattle.status.specs.Status.{registerOf, enableOf, statusByte}
@@ -58,6 +59,6 @@ textOf Identity s waiting = identityText (s .unit .serial)
 textOf Points s waiting = plain (s .moving .storage .held)
 textOf (Trace form t bin count) s waiting = []
 
--- "RS232 (..; replies end in CR) or GPIB (..; replies end in LF)": the ports are 0 and 1
+-- "RS232 (..; replies end in CR) or GPIB (..; replies end in LF)": by the port's number
 abbrev pub endOf : ℕ → ℕ
-endOf port = cond (eqb port 0) 13 10
+endOf port = cond (eqb port rs232) cr lf

@@ -1,14 +1,14 @@
--- The first line of a script, and the others. Assumes nothing.
+-- The first line of a script, and the others; how many parts there are. Assumes nothing.
 use Prim.Native.Nat.{ℕ, suc, _<_, _≤_}
 use mathlib.Core.Path.{_≡_, refl, ap, _∙_}
-use mathlib.Core.Bool.{Bool, true, false}
+use mathlib.Core.Bool.{Bool, true, false, cond}
 use mathlib.Core.List.{List, [], _∷_}
 use native.Mathlib.Omega.{arith}
-use lib.Dec.{ltb}
+use lib.Dec.{eqb, ltb}
 use lib.ListN.{length, take, drop, drop-of-length-le}
 use lib.Seq.{take-all}
 use borrow.Author.Tests.{ltb-true, ltb-false}
-use Rattle.divide.specs.Divide.{span, parts}
+use Rattle.divide.specs.Divide.{span, onHead, parts}
 use Rattle.divide.proofs.Span.{span-le, parts-first, parts-more, parts-last}
 use Rattle.script.specs.Check.{withoutLast, linesOf}
 
@@ -45,3 +45,18 @@ lines-first s h = first-by (ltb (span 10 s) (length s)) s refl h
 
 pub lines-none : (s : List ℕ) (a : ℕ) → length s ≤ a → linesOf (drop a s) ≡ []
 lines-none s a h = rw (drop-of-length-le s {i = a} h) no-lines
+
+-- at most one part more than there are bytes
+head-length : (b : ℕ) (ps : List (List ℕ)) → length (onHead b ps) ≤ suc (length ps)
+unfolding onHead
+head-length b [] = omega arith
+head-length b (p ∷ ps) = omega arith
+
+pub parts-length : (sep : ℕ) (s : List ℕ) → length (parts sep s) ≤ suc (length s)
+unfolding parts
+parts-length sep [] = omega arith
+parts-length sep (b ∷ bs) = by (eqb b sep) (parts-length sep bs) (head-length b (parts sep bs)) where
+  by : (t : Bool) → length (parts sep bs) ≤ suc (length bs) → length (onHead b (parts sep bs)) ≤ suc (length (parts sep bs))
+      → length (cond t ([] ∷ parts sep bs) (onHead b (parts sep bs))) ≤ suc (suc (length bs))
+  by true h g = omega arith
+  by false h g = omega arith

@@ -1,14 +1,16 @@
 -- The script check: document 01, "The script check".
 use Prim.Native.Nat.{ℕ, _+_}
-use mathlib.Core.Bool.{Bool, cond, _&&_}
+use mathlib.Core.Bool.{Bool, cond}
 use mathlib.Core.List.{List, [], _∷_}
-use lib.Dec.{leb, ltb}
+use lib.Dec.{ltb}
 use lib.ListN.{length}
 use Rattle.divide.specs.Divide.{parts}
 use Rattle.refusal.specs.declared.Refusal.the-variants.{NoReset, LongScriptLine, BadTraces}
 use Rattle.refusal.specs.declared.Outcome.{Outcome}
 use Rattle.refusal.specs.declared.Outcome.the-variants as outcome
+pub use Rattle.settings.specs.Limits.{capacityFits}
 use Rattle.command.specs.Parsed.{parsedOf}
+use Rattle.clean.specs.Clean.{lineLimit}
 use Rattle.clean.specs.Texts.{textsOf}
 use Rattle.refusal.specs.declared.Answer.{Answer}
 use Rattle.refusal.specs.declared.Answer.the-variants as answer
@@ -34,7 +36,7 @@ textsAfter capacity (t ∷ ts) b = textsAfter capacity ts (textAfter capacity (p
 
 -- "script line over 256 bytes"
 abbrev pub tooLong : List ℕ → Bool
-tooLong line = ltb 256 (length line)
+tooLong line = ltb lineLimit (length line)
 
 -- "line by line: 8 (place 0), then 7, .., then 1 to 3"; "A script with none is 7 at line 1, place 1."
 unfoldable pub verdictOf : Answer → ℕ → Verdict → Verdict
@@ -62,8 +64,5 @@ abbrev pub linesOf : List ℕ → List (List ℕ)
 linesOf script = withoutLast (parts 10 script)
 
 -- "9 first (line 0, place 0)"
-abbrev pub capacityFits : ℕ → Bool
-capacityFits capacity = leb 1 capacity && leb capacity 16383
-
 unfoldable pub checkOf : ℕ → List ℕ → Verdict
 checkOf capacity script = cond (capacityFits capacity) (linesVerdict capacity 1 (linesOf script) startBoth) (No 0 0 BadTraces)

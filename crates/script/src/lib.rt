@@ -3,6 +3,7 @@ ghost use mathlib.Core.Path.{_≡_};
 ghost use Prim.Native.Nat.{_≤_, _<_};
 ghost use lib.ListN.{length};
 ghost use Rattle.divide.specs.Divide.{parts};
+ghost use Rattle.clean.specs.Clean.{lineLimit};
 ghost use Rattle.clean.specs.Texts.{semicolon, textsOf};
 ghost use Rattle.two_courses.specs.Courses.{gapOf, startBoth};
 ghost use Rattle.script.specs.Check.{linesVerdict, linesOf, capacityFits, checkOf};
@@ -10,6 +11,7 @@ ghost use Rattle.script.specs.Given.{Sweeps};
 use refusal::Answer;
 use refusal::Outcome;
 use refusal::Refusal;
+use settings::Settings;
 use two_courses::Both;
 use verdict::Verdict;
 
@@ -51,7 +53,7 @@ fn sweep(capacity: u32, b: Both, text: &[u8]) -> Swept
 
 // A line of at most 256 bytes, with what can happen before it.
 fn sweep_line(capacity: u32, b: Both, line: &[u8]) -> Swept
-    requires { ⌜ length (now line) ≤ 256 ⌝ }
+    requires { ⌜ length (now line) ≤ lineLimit ⌝ }
     ensures { λ r. ⌜ Sweeps capacity (textsOf (now (line .entry))) (gapOf capacity b) r ⌝ }
 {
     let c = clean::clean(line);
@@ -92,10 +94,10 @@ fn check_lines(capacity: u32, script: &[u8]) -> Verdict
 pub fn capacity_fits(capacity: u32) -> bool
     ensures { λ r. ⌜ r ≡ capacityFits capacity ⌝ }
 {
-    if capacity < settings::CAPACITY_LEAST {
+    if capacity < Settings::CAPACITY_LEAST {
         return false;
     }
-    capacity <= settings::CAPACITY_MOST
+    capacity <= Settings::CAPACITY_MOST
 }
 
 // Whether any course of a script can be refused, at a capacity.

@@ -7,9 +7,10 @@ mod operation;
 
 use course::Course;
 use refusal::Refusal;
+use settings::Settings;
 use verdict::Verdict;
 
-const SLOTS: usize = settings::CAPACITY_MOST as usize;
+const SLOTS: usize = Settings::CAPACITY_MOST as usize;
 
 // Room for every line's reply: a line of 256 bytes has at most 17 trace reads, of 65,532 bytes each.
 const ROOM: usize = 1114112;
@@ -20,7 +21,9 @@ fn reply_buffer() -> [u8; ROOM]
     [0; ROOM]
 }
 
-// Shows the course without events where it is refused, and else the one with events. One of the two is (crates/courses/proofs/Theorem.antt).
+// Shows the course without events where it is refused, and else the one with events. A course from a fresh module is
+// refused there (`FirstRefused`, crates/courses/specs/Demand3.antt), and its events are those of one of these two
+// (crates/courses/proofs/Reached.antt).
 fn show(script: &[u8], line: usize, place: u32, one: &mut [u32], two: &mut [u32]) {
     let mut reply = reply_buffer();
     let asked = Course {

@@ -10,7 +10,8 @@ use Rattle.number.specs.Value.{Exact, exactOf, argumentOf}
 use Rattle.number.specs.Quantity.{cap, quantityOf, takenOf}
 use Rattle.number.proofs.Exact.{Small, same-test, taken-exact, under-pos}
 use Rattle.settings.specs.Table.{freq, rowOf}
-use Rattle.settings.specs.Frequency.{hertz, stepBy}
+use Rattle.settings.specs.Limits.{hertz}
+use Rattle.settings.specs.Frequency.{stepBy}
 use Rattle.settings.specs.Setting.{stepWith, rangeWith, exactStep, turnedAt, settingOf, stepOf, rangeOf, valueTaken}
 use Rattle.settings.proofs.Rows.{step-by, row-size}
 

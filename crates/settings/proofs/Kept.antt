@@ -14,8 +14,9 @@ use Rattle.number.specs.declared.Range.{Range}
 use Rattle.number.specs.declared.Argument.{Argument}
 use Rattle.number.specs.declared.Argument.the-variants.{Value, Refused}
 use Rattle.number.proofs.Exact.{and-first, and-second, under-pos}
+use Rattle.settings.specs.Limits.{hertz, frequencyLow, frequencyHigh}
 use Rattle.settings.specs.Table.{entries, table, rowOf, phas, freq, turnedOf, valueOf, withValue}
-use Rattle.settings.specs.Frequency.{hertz, stepBy, frequencyStep}
+use Rattle.settings.specs.Frequency.{stepBy, frequencyStep}
 use Rattle.settings.specs.Setting.{stepWith, rangeWith, exactStep, turnedAt, settingOf, stepOf}
 use Rattle.settings.specs.Allowed.{keeps, every, keepsAll}
 use Rattle.settings.specs.declared.Settings.{Settings}
@@ -31,11 +32,12 @@ decade s low high = record { bias = 0; low = low; high = high; step = s; whole =
 record Decade (s low high : ℕ) : Type 0 where
   aligned : Aligned (decade s low high)
   top : high % frequencyStep high ≡ 0
-  least : 10 ≤ low
-  most : high ≤ 1020000000
+  least : frequencyLow ≤ low
+  most : high ≤ frequencyHigh
   inner : (y : ℕ) → low ≤ y → y < high → frequencyStep y ≡ s
 
-decade-of : {s low high : ℕ} → 1 ≤ s → low % s ≡ 0 → high % s ≡ 0 → high % frequencyStep high ≡ 0 → (10 ≤ low) × (high ≤ 1020000000) →
+decade-of : {s low high : ℕ} → 1 ≤ s → low % s ≡ 0 → high % s ≡ 0 → high % frequencyStep high ≡ 0 →
+    (frequencyLow ≤ low) × (high ≤ frequencyHigh) →
     ((y : ℕ) → low ≤ y → y < high → frequencyStep y ≡ s) → Decade s low high
 decade-of {s} p l h top ends inner =
     record {
@@ -46,9 +48,9 @@ decade-of {s} p l h top ends inner =
       inner = inner;
     }
 
-keeps-freq : (x : ℕ) → 10 ≤ x → x ≤ 1020000000 → x % frequencyStep x ≡ 0 → keeps freq x ≡ true
+keeps-freq : (x : ℕ) → frequencyLow ≤ x → x ≤ frequencyHigh → x % frequencyStep x ≡ 0 → keeps freq x ≡ true
 unfolding keeps stepOf rowOf table
-keeps-freq x l h e = rw (le-leb 10 x l, le-leb x 1020000000 h, e)
+keeps-freq x l h e = rw (le-leb frequencyLow x l, le-leb x frequencyHigh h, e)
 
 module _ {s low high : ℕ} (d : Decade s low high) (v : Exact) (pos : 0 < v .under) where
   in-decade : low * v .under ≤ v .over → v .over ≤ high * v .under → (x : ℕ) → 0 + rounded s v ≡ x → keeps freq x ≡ true
@@ -79,7 +81,7 @@ module _ (v : Exact) (pos : 0 < v .under) where
     by : (a b c d f : Bool) → under (hertz 10) ≡ a → under (hertz 100) ≡ b → under (hertz 1000) ≡ c → under (hertz 10000) ≡ d → under (hertz 100000) ≡ f →
         keeps freq x ≡ true
     by true b c d f p1 p2 p3 p4 p5 =
-        in-decade {s = 1} {low = 10} {high = hertz 10}
+        in-decade {s = 1} {low = frequencyLow} {high = hertz 10}
         (decade-of (omega arith) refl refl refl (omega arith) (λ y l h. simp (lt-ltb y (hertz 10) h))) v pos
         (omega (arith, t .low)) (upper (hertz 10) p1) x (simp p1 at (t .value))
     by false true c d f p1 p2 p3 p4 p5 =
@@ -99,7 +101,7 @@ module _ (v : Exact) (pos : 0 < v .under) where
         (decade-of (omega arith) refl refl refl (omega arith) (λ y l h. simp (le-ltb y (hertz 10) (omega arith), le-ltb y (hertz 100) (omega arith), le-ltb y (hertz 1000) (omega arith), le-ltb y (hertz 10000) (omega arith), lt-ltb y (hertz 100000) h))) v pos
         (lower (hertz 10000) p4) (upper (hertz 100000) p5) x (simp (p1, p2, p3, p4, p5) at (t .value))
     by false false false false false p1 p2 p3 p4 p5 =
-        in-decade {s = 100000} {low = hertz 100000} {high = 1020000000}
+        in-decade {s = 100000} {low = hertz 100000} {high = frequencyHigh}
         (decade-of (omega arith) refl refl refl (omega arith) (λ y l h. simp (le-ltb y (hertz 10) (omega arith), le-ltb y (hertz 100) (omega arith), le-ltb y (hertz 1000) (omega arith), le-ltb y (hertz 10000) (omega arith), le-ltb y (hertz 100000) (omega arith)))) v pos
         (lower (hertz 100000) p5) (omega (arith, t .high)) x (simp (p1, p2, p3, p4, p5) at (t .value))
 

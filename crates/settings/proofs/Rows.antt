@@ -5,7 +5,8 @@ use mathlib.Core.List.{List, [], _∷_}
 use lib.Dec.{T, leb, ltb, eqb, leb→le}
 use lib.ListN.{getD}
 use Rattle.settings.specs.Table.{table, rowOf, noRow, freq}
-use Rattle.settings.specs.Frequency.{hertz, stepBy, frequencyStep}
+use Rattle.settings.specs.Limits.{hertz}
+use Rattle.settings.specs.Frequency.{stepBy, frequencyStep}
 use Rattle.settings.specs.Setting.{stepOf}
 use Rattle.settings.specs.declared.Row.{Row}
 

@@ -3,6 +3,7 @@ use mathlib.Core.Path.{_≡_, refl}
 use mathlib.Core.Bool.{Bool, true, _&&_}
 use mathlib.Core.List.{[], _∷_, map}
 use lib.Dec.{leb}
+use Rattle.settings.specs.Limits.{frequencyLow, frequencyHigh, frequencyStart}
 use Rattle.settings.specs.Table.{entries, table, rowOf, startSettings, valueOf, whole, above, phase, phas, fmod, freq, harm, slvl, oflt, srat, send, tstr}
 use Rattle.settings.specs.Frequency.{stepBy, inForce, detectionOf, externalStart}
 use Rattle.settings.specs.Setting.{stepOf}
@@ -30,6 +31,6 @@ rows-ordered = refl
 -- the entries that rules name have the rows of their settings
 pub entries-named :
     map rowOf (phas ∷ fmod ∷ freq ∷ harm ∷ slvl ∷ oflt ∷ srat ∷ send ∷ tstr ∷ [])
-    ≡ phase ∷ whole 0 1 1 ∷ above 4 10 1020000000 1 10000000 ∷ whole 1 19999 1 ∷ above 3 4 5000 2 1000 ∷ whole 0 19 8 ∷ whole 0 14 4 ∷ whole 0 1 1 ∷ whole 0 1 0 ∷ []
+    ≡ phase ∷ whole 0 1 1 ∷ above 4 frequencyLow frequencyHigh 1 frequencyStart ∷ whole 1 19999 1 ∷ above 3 4 5000 2 1000 ∷ whole 0 19 8 ∷ whole 0 14 4 ∷ whole 0 1 1 ∷ whole 0 1 0 ∷ []
 unfolding table rowOf
 entries-named = refl

@@ -2,12 +2,12 @@
 use Prim.Native.Nat.{ℕ, _+_, _*_}
 use mathlib.Core.Bool.{Bool, cond, not, _&&_, _||_}
 use lib.Dec.{leb, ltb, eqb}
+use Rattle.settings.specs.Limits.{frequencyLow, frequencyHigh, frequencyStart}
+use Rattle.settings.specs.Limits.{detectionLimit, longLimit, longestAbove}
+pub use Rattle.settings.specs.Limits.{hertz}
 use Rattle.settings.specs.Table.{fmod, freq, harm, valueOf}
 use Rattle.settings.specs.declared.Settings.{Settings}
 use Rattle.settings.specs.declared.Crossing.{Crossing}
-
-abbrev pub hertz : ℕ → ℕ
-hertz n = n * 10000
 
 -- "Its step is 0.0001 Hz below 10 Hz, 0.001 below 100, 0.01 below 1000, 0.1 below 10000, 1 below 100000, else 10, by the value before
 -- rounding": below k says whether that value is below k
@@ -33,15 +33,15 @@ detectionOf s external = valueOf s harm * inForce s external
 
 -- "It is at most 102 kHz in every state"
 abbrev pub withinLimit : ℕ → Bool
-withinLimit detection = leb detection (hertz 102000)
+withinLimit detection = leb detection detectionLimit
 
 -- "exactly 200 Hz is below"
 abbrev pub above200 : ℕ → Bool
-above200 detection = ltb (hertz 200) detection
+above200 detection = ltb longLimit detection
 
 -- "OFLT 14 to 19 (above 30 s) is refused while the detection frequency exceeds 200 Hz."
 abbrev pub timeConstantStands : ℕ → ℕ → Bool
-timeConstantStands detection constant = leb constant 13 || not (above200 detection)
+timeConstantStands detection constant = leb constant longestAbove || not (above200 detection)
 
 -- "When a command or event lifts it above 200 Hz"
 abbrev pub lifts : ℕ → ℕ → Bool
@@ -54,16 +54,16 @@ crosses old new = lifts old new || lifts new old
 -- "a time constant of 14 or more becomes 13 and LIA bit 5 is set"; in a mask bit 4 is 16 and bit 5 is 32
 unfoldable pub crossingOf : ℕ → ℕ → ℕ → Crossing
 crossingOf old new constant =
-    let shortens = lifts old new && leb 14 constant in
+    let shortens = lifts old new && ltb longestAbove constant in
     record {
-      constant = cond shortens 13 constant;
+      constant = cond shortens longestAbove constant;
       bits = cond (crosses old new) 16 0 + cond shortens 32 0;
     }
 
 -- the external frequency: "outside 0.001 to 102000 Hz .. it is not taken"
 abbrev pub frequencyInRange : ℕ → Bool
-frequencyInRange f = leb 10 f && leb f (hertz 102000)
+frequencyInRange f = leb frequencyLow f && leb f frequencyHigh
 
 -- "the last measured external one (whole 0.1 mHz, start 1000 Hz)"
 abbrev pub externalStart : ℕ
-externalStart = hertz 1000
+externalStart = frequencyStart

@@ -4,6 +4,7 @@ use mathlib.Core.Bool.{cond}
 use mathlib.Core.List.{List, [], _∷_, map}
 use lib.Dec.{ltb}
 use lib.ListN.{getD, set}
+use Rattle.settings.specs.Limits.{frequencyLow, frequencyHigh, frequencyStart}
 use Rattle.settings.specs.declared.Row.{Row}
 use Rattle.settings.specs.declared.Settings.{Settings}
 
@@ -25,22 +26,23 @@ abbrev pub signed : (decimals end : ℕ) → Row
 signed decimals end =
     record { bias = end; low = 0; high = end + end; least = 0; most = end + end; step = 1; decimals = decimals; start = end }
 
--- "-360.00 to 729.99, 0.01", start 0; a state keeps "-179.99 to 180.00"
+-- a whole turn, 360.00
+abbrev pub turn : ℕ
+turn = 36000
+
+-- "-360.00 to 729.99, 0.01", start 0; a state keeps "-179.99 to 180.00"; the bias is a whole turn
 abbrev pub phase : Row
 phase =
     record {
-      bias = 36000;
-      low = 36000 - 36000;
-      high = 36000 + 72999;
-      least = 36000 - 17999;
-      most = 36000 + 18000;
+      bias = turn;
+      low = turn - turn;
+      high = turn + 72999;
+      least = turn - 17999;
+      most = turn + 18000;
       step = 1;
       decimals = 2;
-      start = 36000;
+      start = turn;
     }
-
-abbrev pub turn : ℕ
-turn = 36000
 
 -- "once rounded, kept in -179.99 to 180.00 by whole turns"
 unfoldable pub turnedOf : ℕ → ℕ
@@ -50,7 +52,7 @@ unfoldable pub table : List Row
 table =
     phase  -- 0 PHAS x: -360.00 to 729.99, 0.01
     ∷ whole 0 1 1  -- 1 FMOD i: 0 external, 1 internal; start 1
-    ∷ above 4 10 1020000000 1 10000000  -- 2 FREQ f: 0.001 to 102000 Hz; start 1000 (the step goes by the value)
+    ∷ above 4 frequencyLow frequencyHigh 1 frequencyStart  -- 2 FREQ f: 0.001 to 102000 Hz; start 1000; step by the value
     ∷ whole 0 2 0  -- 3 RSLP i: 0-2
     ∷ whole 1 19999 1  -- 4 HARM i: 1-19999; start 1
     ∷ above 3 4 5000 2 1000  -- 5 SLVL x: 0.004 to 5.000 V, 0.002; start 1

@@ -33,37 +33,26 @@ pub const TSTR: usize = 33;
 
 pub const ENTRIES: usize = 34;
 
-// The capacity of the traces: the least and the most points.
-pub const CAPACITY_LEAST: u32 = 1;
-
-pub const CAPACITY_MOST: u32 = 16383;
-
 // FMOD with the internal frequency in force.
 pub const INTERNAL: u32 = 1;
-
-// Frequencies in units of 0.1 mHz: the range of FREQ and of the external frequency, the start of both, the limit of 102 kHz on the detection frequency, and the 200 Hz above which no long time constant stands.
-pub const FREQUENCY_LOW: u32 = 10;
-
-pub const FREQUENCY_HIGH: u32 = 1020000000;
-
-pub const FREQUENCY_START: u32 = 10000000;
-
-pub const DETECTION_LIMIT: u64 = 1020000000;
-
-pub const LONG_LIMIT: u64 = 2000000;
-
-// The longest time constant above 200 Hz.
-pub const LONGEST_ABOVE: u32 = 13;
 
 // LIA bits as masks: 200 Hz crossed, and the time constant changed.
 pub const CROSSED: u8 = 16;
 
 pub const SHORTENED: u8 = 32;
 
-// A turn of PHAS, and the lowest phase kept with its bias.
-const TURN: u64 = 36000;
+// A turn of PHAS, which is its bias too, and the lowest and highest phase kept, with the bias.
+const TURN: u32 = 36000;
 
-const PHASE_LEAST: u64 = 18001;
+const PHASE_LEAST: u32 = 18001;
+
+const PHASE_MOST: u32 = 54000;
+
+// From the lowest phase kept to a whole turn.
+const TO_TURN: u32 = TURN - PHASE_LEAST;
+
+// The step of SLVL.
+const LEVEL_STEP: u32 = 2;
 
 // A setting's part of the table. A value x in units of the last decimal is kept as x + bias, and so are all values here: an argument may lie from low to high, a state keeps least to most.
 pub struct Row {
@@ -89,12 +78,70 @@ pub struct Crossing {
 }
 
 impl Settings {
+    // The capacity of the traces: the least and the most points.
+    pub const CAPACITY_LEAST: u32 = 1;
+
+    pub const CAPACITY_MOST: u32 = 16383;
+
+    // Frequencies in units of 0.1 mHz: the range of FREQ and of the external frequency, and the start of both.
+    pub const FREQUENCY_LOW: u32 = 10;
+
+    pub const FREQUENCY_HIGH: u32 = 1020000000;
+
+    pub const FREQUENCY_START: u32 = 10000000;
+
+    // The highest detection frequency, 102 kHz, in the same units: a rule of its own beside FREQ's range.
+    pub const DETECTION_LIMIT: u32 = 1020000000;
+
+    // The detection frequency above which no long time constant stands, 200 Hz, and the longest one that does.
+    pub const LONG_LIMIT: u32 = 2000000;
+
+    pub const LONGEST_ABOVE: u32 = 13;
+
+    // Every value at start, with its bias.
+    pub const START: [u32; ENTRIES] = [
+        TURN, // PHAS
+        1, // FMOD
+        Settings::FREQUENCY_START, // FREQ
+        0, // RSLP
+        1, // HARM
+        1000, // SLVL
+        0, // ISRC
+        0, // ILIN
+        1, // OFSL
+        0, // IGND
+        0, // ICPL
+        0, // SYNC
+        26, // SENS
+        2, // RMOD
+        8, // OFLT
+        0, // DDEF 1 j
+        0, // DDEF 1 k
+        0, // DDEF 2 j
+        0, // DDEF 2 k
+        0, // FPOP 1
+        0, // FPOP 2
+        10500, // OEXP 1 x
+        0, // OEXP 1 j
+        10500, // OEXP 2 x
+        0, // OEXP 2 j
+        10500, // OEXP 3 x
+        0, // OEXP 3 j
+        10500, // AUXV 1
+        10500, // AUXV 2
+        10500, // AUXV 3
+        10500, // AUXV 4
+        4, // SRAT
+        1, // SEND
+        0, // TSTR
+    ];
+
     // The settings at start and after *RST.
     pub fn start() -> Settings
         ensures { λ r. ⌜ r ≡ startSettings ⌝ }
     {
         Settings {
-            values: table::START,
+            values: Settings::START,
         }
     }
 }
@@ -134,7 +181,7 @@ pub fn turned(value: u32) -> u32
     ensures { λ r. ⌜ r ≡ turnedOf value ⌝ }
 {
     let x = value as u64;
-    (PHASE_LEAST + (x + 17999) % TURN) as u32
+    (PHASE_LEAST as u64 + (x + TO_TURN as u64) % TURN as u64) as u32
 }
 
 // The step of FREQ, by its value's whole units before rounding.
@@ -183,21 +230,21 @@ pub fn detection(s: Settings, external: u32) -> u64
 pub fn within_limit(detection: u64) -> bool
     ensures { λ r. ⌜ r ≡ withinLimit detection ⌝ }
 {
-    detection <= DETECTION_LIMIT
+    detection <= Settings::DETECTION_LIMIT as u64
 }
 
 // Whether a detection frequency is above 200 Hz.
 pub fn above_200(detection: u64) -> bool
     ensures { λ r. ⌜ r ≡ above200 detection ⌝ }
 {
-    LONG_LIMIT < detection
+    (Settings::LONG_LIMIT as u64) < detection
 }
 
 // Whether a time constant may stand at a detection frequency.
 pub fn time_constant_stands(detection: u64, constant: u32) -> bool
     ensures { λ r. ⌜ r ≡ timeConstantStands detection constant ⌝ }
 {
-    (constant <= LONGEST_ABOVE) | !above_200(detection)
+    (constant <= Settings::LONGEST_ABOVE) | !above_200(detection)
 }
 
 // What comes of a detection frequency that was old and is new.
@@ -207,10 +254,10 @@ pub fn crossing_of(old: u64, new: u64, constant: u32) -> Crossing
     let was = above_200(old);
     let is = above_200(new);
     let lifts = !was & is;
-    let shortens = lifts & (LONGEST_ABOVE < constant);
+    let shortens = lifts & (Settings::LONGEST_ABOVE < constant);
     if shortens {
         return Crossing {
-            constant: LONGEST_ABOVE,
+            constant: Settings::LONGEST_ABOVE,
             bits: CROSSED + SHORTENED,
         };
     }
@@ -228,7 +275,7 @@ pub fn crossing_of(old: u64, new: u64, constant: u32) -> Crossing
 pub fn frequency_in_range(frequency: u32) -> bool
     ensures { λ r. ⌜ r ≡ frequencyInRange frequency ⌝ }
 {
-    (FREQUENCY_LOW <= frequency) & (frequency <= FREQUENCY_HIGH)
+    (Settings::FREQUENCY_LOW <= frequency) & (frequency <= Settings::FREQUENCY_HIGH)
 }
 
 // The step of an entry, by its value's whole units before rounding.
@@ -323,7 +370,7 @@ fn on_frequency_step(value: u32) -> bool
 pub fn keeps_all(s: Settings) -> bool
     ensures { λ r. ⌜ r ≡ keepsAll s ⌝ }
 {
-    let steps = on_frequency_step(value_of(s, FREQ)) & (value_of(s, SLVL) % 2 == 0);
+    let steps = on_frequency_step(value_of(s, FREQ)) & (value_of(s, SLVL) % LEVEL_STEP == 0);
     in_ranges(s) & steps
 }
 

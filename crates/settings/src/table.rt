@@ -2,10 +2,15 @@
 // memory. A constant array is written to the stack at each use: so only what is used whole, at constant places, is one.
 ghost use mathlib.Core.Path.{_≡_};
 ghost use mathlib.Core.List.{map};
-ghost use Prim.Native.Nat.{_≤_};
+ghost use Prim.Native.Nat.{_+_, _^_, _<_};
 ghost use Rattle.settings.specs.Table.{whole, above, signed, phase, table, rowOf};
 use super::ENTRIES;
+use super::LEVEL_STEP;
+use super::PHASE_LEAST;
+use super::PHASE_MOST;
 use super::Row;
+use super::Settings;
+use super::TURN;
 
 // A whole number from low to high.
 fn whole(low: u32, high: u32, start: u32) -> Row
@@ -41,7 +46,7 @@ fn above(decimals: u8, low: u32, high: u32, step: u32, start: u32) -> Row
 
 // A value from -end to end that starts at 0.
 fn signed(decimals: u8, end: u32) -> Row
-    requires { ⌜ end ≤ 36000 ⌝ }
+    requires { ⌜ end + end < 2 ^ 32 ⌝ }
     ensures { λ r. ⌜ r ≡ signed decimals end ⌝ }
 {
     Row {
@@ -61,14 +66,14 @@ fn phase() -> Row
     ensures { λ r. ⌜ r ≡ phase ⌝ }
 {
     Row {
-        bias: 36000,
+        bias: TURN,
         low: 0,
         high: 108999,
-        least: 18001,
-        most: 54000,
+        least: PHASE_LEAST,
+        most: PHASE_MOST,
         step: 1,
         decimals: 2,
-        start: 36000,
+        start: TURN,
     }
 }
 
@@ -79,10 +84,16 @@ pub fn row_of(entry: usize) -> Row
     match entry {
         0 => phase(), // PHAS
         1 => whole(0, 1, 1), // FMOD
-        2 => above(4, 10, 1020000000, 1, 10000000), // FREQ
+        2 => above(
+            4,
+            Settings::FREQUENCY_LOW,
+            Settings::FREQUENCY_HIGH,
+            1,
+            Settings::FREQUENCY_START,
+        ), // FREQ
         3 => whole(0, 2, 0), // RSLP
         4 => whole(1, 19999, 1), // HARM
-        5 => above(3, 4, 5000, 2, 1000), // SLVL
+        5 => above(3, 4, 5000, LEVEL_STEP, 1000), // SLVL
         6 => whole(0, 3, 0), // ISRC
         7 => whole(0, 3, 0), // ILIN
         8 => whole(0, 3, 1), // OFSL
@@ -117,9 +128,9 @@ pub fn row_of(entry: usize) -> Row
 
 // The lowest value of each entry that a state keeps, and the highest.
 const LEAST: [u32; ENTRIES] = [
-    18001, // PHAS
+    PHASE_LEAST, // PHAS
     0, // FMOD
-    10, // FREQ
+    Settings::FREQUENCY_LOW, // FREQ
     0, // RSLP
     1, // HARM
     4, // SLVL
@@ -154,9 +165,9 @@ const LEAST: [u32; ENTRIES] = [
 ];
 
 const MOST: [u32; ENTRIES] = [
-    54000, // PHAS
+    PHASE_MOST, // PHAS
     1, // FMOD
-    1020000000, // FREQ
+    Settings::FREQUENCY_HIGH, // FREQ
     2, // RSLP
     19999, // HARM
     5000, // SLVL
@@ -203,41 +214,3 @@ pub fn mosts() -> [u32; ENTRIES]
 {
     MOST
 }
-
-// The settings at start, with the bias.
-pub const START: [u32; ENTRIES] = [
-    36000, // PHAS
-    1, // FMOD
-    10000000, // FREQ
-    0, // RSLP
-    1, // HARM
-    1000, // SLVL
-    0, // ISRC
-    0, // ILIN
-    1, // OFSL
-    0, // IGND
-    0, // ICPL
-    0, // SYNC
-    26, // SENS
-    2, // RMOD
-    8, // OFLT
-    0, // DDEF 1 j
-    0, // DDEF 1 k
-    0, // DDEF 2 j
-    0, // DDEF 2 k
-    0, // FPOP 1
-    0, // FPOP 2
-    10500, // OEXP 1 x
-    0, // OEXP 1 j
-    10500, // OEXP 2 x
-    0, // OEXP 2 j
-    10500, // OEXP 3 x
-    0, // OEXP 3 j
-    10500, // AUXV 1
-    10500, // AUXV 2
-    10500, // AUXV 3
-    10500, // AUXV 4
-    4, // SRAT
-    1, // SEND
-    0, // TSTR
-];

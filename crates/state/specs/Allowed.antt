@@ -1,6 +1,9 @@
 -- The states that are allowed: refusal 11, "a state outside the ranges, steps and limits above, its serial and port included".
+use Prim.Native.Nat.{ℕ}
 use mathlib.Core.Bool.{Bool, _&&_}
 use lib.Dec.{leb}
+use Rattle.queue.specs.Queue.{gpib}
+use Rattle.settings.specs.Limits.{capacityFits}
 use Rattle.settings.specs.Table.{send, valueOf}
 use Rattle.settings.specs.Allowed.{allowedOf}
 use Rattle.storage.specs.Storage as storage
@@ -10,9 +13,13 @@ use Rattle.state.specs.declared.Unit.{Unit}
 use Rattle.state.specs.declared.Pair.{Pair}
 use Rattle.state.specs.declared.State.{State}
 
--- "serial over 99999 or port unknown": the ports are 0, RS232, and 1, GPIB; "capacity, 1 to 16383"
+-- the highest serial number
+abbrev pub serialMost : ℕ
+serialMost = 99999
+
+-- "serial over 99999 or port unknown": the ports are RS232 and GPIB, as numbers; "capacity, 1 to 16383"
 unfoldable pub keepsUnit : Unit → Bool
-keepsUnit u = leb (u .serial) 99999 && (leb (u .port) 1 && (leb 1 (u .capacity) && leb (u .capacity) 16383))
+keepsUnit u = leb (u .serial) serialMost && (leb (u .port) gpib && capacityFits (u .capacity))
 
 -- the latest pair: two legal points
 unfoldable pub keepsLatest : Pair → Bool

@@ -11,13 +11,12 @@ use storage::Sampled;
 use storage::Sampling;
 use storage::Storage;
 
+// The ports, as numbers.
+pub use queue::GPIB;
+pub use queue::RS232;
+
 // The highest serial number.
 pub const SERIAL_MOST: u32 = 99999;
-
-// The ports, as numbers.
-pub const RS232: u8 = 0;
-
-pub const GPIB: u8 = 1;
 
 // What is fixed at start.
 pub struct Unit {
@@ -53,7 +52,7 @@ impl Moving {
         ensures { λ r. ⌜ r ≡ startMoving ⌝ }
     {
         Moving {
-            external: settings::FREQUENCY_START,
+            external: Settings::FREQUENCY_START,
             storage: storage::emptied(),
         }
     }
@@ -179,7 +178,7 @@ fn keeps_unit(u: Unit) -> bool
     ensures { λ r. ⌜ r ≡ keepsUnit u ⌝ }
 {
     let capacity = u.capacity;
-    let fits = (settings::CAPACITY_LEAST <= capacity) & (capacity <= settings::CAPACITY_MOST);
+    let fits = (Settings::CAPACITY_LEAST <= capacity) & (capacity <= Settings::CAPACITY_MOST);
     (u.serial <= SERIAL_MOST) & ((u.port <= GPIB) & fits)
 }
 

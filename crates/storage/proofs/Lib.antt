@@ -1,4 +1,3 @@
 -- The laws of `storage`.
-pub mod Slots
 pub mod Kept
 pub mod Stays

@@ -155,7 +155,7 @@ never-reset s true d = refl
 never-reset s false d = d
 
 -- in one shot a running storage has room
-room : (s : Storage) (capacity end : ℕ) → isRunning s ≡ true → keepsOf s capacity end ≡ true → eqb end oneShot ≡ true → s .held < capacity
+pub room : (s : Storage) (capacity end : ℕ) → isRunning s ≡ true → keepsOf s capacity end ≡ true → eqb end oneShot ≡ true → s .held < capacity
 room s capacity end r k o = by (ltb (s .held) capacity) refl
   where
     by : (t : Bool) → ltb (s .held) capacity ≡ t → s .held < capacity
@@ -216,16 +216,26 @@ module _ (s : Storage) (capacity : ℕ) (by : Sampling) where
       (λ e. and-eq-true-iff (isRunning (readiedOf s by)) (eqb (by .rate) externalRate) .0 e .0)
       (readied-keeps k)
 
--- a trigger that starts storage leaves its next slot, so the pair goes to that of the storage before
-started-next : (t : Bool) (s : Storage) → cond t (inPhase Running s) s .next ≡ s .next
-started-next true s = refl
-started-next false s = refl
+-- STRT, PAUS and the start by a trigger leave the points held and the next slot, so the pair goes to that of the storage before
+pub record Same (t s : Storage) : Type 0 where
+  pub held : t .held ≡ s .held
+  pub next : t .next ≡ s .next
 
-readied-slot : (t : Bool) (s : Storage) → cond t (startedOf s) s .next ≡ s .next
+phase-same : (t : Bool) (p : Phase) (s : Storage) → Same (cond t (inPhase p s) s) s
+phase-same true p s = record { held = refl; next = refl }
+phase-same false p s = record { held = refl; next = refl }
+
+pub started-same : (s : Storage) → Same (startedOf s) s
 unfolding startedOf
-readied-slot true s = started-next (isReset s || isPaused s) s
-readied-slot false s = refl
+started-same s = phase-same (isReset s || isPaused s) Running s
 
-pub readied-next : (s : Storage) (by : Sampling) → readiedOf s by .next ≡ s .next
+pub paused-same : (s : Storage) → Same (pausedOf s) s
+unfolding pausedOf
+paused-same s = phase-same (isRunning s) Paused s
+
+pub readied-same : (s : Storage) (by : Sampling) → Same (readiedOf s by) s
 unfolding readiedOf
-readied-next s by = readied-slot (eqb (by .start) triggerStarts) s
+readied-same s by = either (eqb (by .start) triggerStarts) where
+  either : (t : Bool) → Same (cond t (startedOf s) s) s
+  either true = started-same s
+  either false = record { held = refl; next = refl }

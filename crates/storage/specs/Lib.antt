@@ -1,3 +1,2 @@
 -- The definitions that the contracts of `storage` cite.
 pub mod Storage
-pub mod Slots

@@ -6,7 +6,7 @@ use Rattle.refusal.specs.declared.Refusal.the-variants.{NotAllowed, NoReset}
 use Rattle.refusal.specs.declared.Outcome.{Outcome}
 use Rattle.refusal.specs.declared.Outcome.the-variants as outcome
 use Rattle.settings.specs.Table.{fmod, harm, startSettings, valueOf}
-use Rattle.settings.specs.Frequency.{hertz}
+use Rattle.settings.specs.Limits.{detectionLimit}
 use Rattle.settings.specs.declared.Settings.{Settings}
 use Rattle.storage.specs.Storage.{triggeredOf}
 use Rattle.command.specs.declared.Kind.{Kind}
@@ -28,7 +28,7 @@ resets (Act a) = isReset a
 -- before each line: the high course measures the highest frequency that is taken, the limit over the harmonic, and then has a trigger
 unfoldable pub measuredHigh : Settings → Moving → Moving
 measuredHigh s m =
-    cond (eqb (valueOf s fmod) 1) m (record { external = hertz 102000 / valueOf s harm; storage = m .storage })
+    cond (eqb (valueOf s fmod) 1) m (record { external = detectionLimit / valueOf s harm; storage = m .storage })
 
 unfoldable pub triggeredHigh : ℕ → Settings → Moving → Moving
 triggeredHigh capacity s m = record { external = m .external; storage = triggeredOf (m .storage) capacity (samplingOf s) .storage }

@@ -1,7 +1,7 @@
 // The two courses that the check follows: what can happen before a line, which commands are refused, and what is carried past the others.
 ghost use mathlib.Core.Path.{_≡_};
 ghost use Prim.Native.Nat.{_/_};
-ghost use Rattle.settings.specs.Frequency.{hertz};
+ghost use Rattle.settings.specs.Limits.{detectionLimit};
 ghost use Rattle.two_courses.specs.Courses.{resets, measuredHigh, triggeredHigh, gapOf, kindRefusal, textRefusal, kindAfter, textAfter, startBoth};
 ghost use Rattle.two_courses.specs.Given.{earlyOf, begunAfter};
 use command::Kind;
@@ -32,12 +32,12 @@ fn resets(kind: Kind) -> bool
 
 // The highest frequency that is taken with a harmonic.
 pub fn highest(harmonic: u32) -> u32
-    ensures { λ r. ⌜ r ≡ hertz 102000 / harmonic ⌝ }
+    ensures { λ r. ⌜ r ≡ detectionLimit / harmonic ⌝ }
 {
     if harmonic == 0 {
         return 0;
     }
-    settings::FREQUENCY_HIGH / harmonic
+    Settings::DETECTION_LIMIT / harmonic
 }
 
 // The moving part once the highest frequency was measured, where one is measured at all.

@@ -1,9 +1,8 @@
-// The independent program: it answers worked-values questions and operations, and makes them.
+// The independent program: it answers operations and scripts, and makes them.
 
 mod argument;
 mod bench;
 mod command;
-mod compare;
 mod course;
 mod decimal;
 mod frequency;
@@ -13,7 +12,6 @@ mod natural;
 mod number;
 mod ops;
 mod point;
-mod protocol;
 mod random;
 mod refusal;
 mod script;
@@ -26,14 +24,13 @@ use std::process::ExitCode;
 use std::str::FromStr;
 
 const USAGE: &str = "usage: independent COMMAND
-  answer                     answers the questions on standard input
-  table                      prints the questions of the table of worked values
-  random SEED COUNT          prints COUNT random questions
-  compare QUESTIONS ANSWERS  compares a file of answers with the answers given here
   ops                        answers the operations on standard input, each at once
+  ops-table                  prints the table of worked values, as operations
+  ops-altered                prints operations that alter each field of the state and make every call after it
   ops-random SEED COUNT      prints COUNT random operations
   ops-damaged SEED COUNT     prints COUNT lines that are mostly no operations
   ops-compare OPS ANSWERS    compares a file of answers to operations with the answers given here
+  ops-met OPS ANSWERS        counts the alterations, and for each call the answers 11 by the field altered last
   ops-show OPS               prints a file of operations with the texts that their hex stands for
   ops-shrink PROGRAM OPS     prints a short stream of operations that PROGRAM answers differently
   bench                      feeds standard input to a module and writes its replies
@@ -61,14 +58,6 @@ fn main() -> ExitCode {
 
 fn run(words: &[&str]) -> Result<(), String> {
     match words {
-        ["answer"] => answer(protocol::answer),
-        ["table"] => print(table::questions()),
-        ["random", seed, count] => print(random::Questions::new(number(seed)?).take(number(count)?)),
-        ["compare", questions, answers] => {
-            let compared = compare::compare(&contents(questions)?, &contents(answers)?)?;
-            println!("{compared} answers agree");
-            Ok(())
-        }
         ["bench"] => bench::bench(io::stdin().lock(), &mut BufWriter::new(io::stdout().lock())).map_err(told),
         ["bench-random", seed, count] => write(&random::bench::input(number(seed)?, number(count)?)),
         [command, ..] if command.starts_with("ops") => run_operations(words),
@@ -82,11 +71,18 @@ fn run_operations(words: &[&str]) -> Result<(), String> {
             let mut session = ops::Session::new();
             answer(|operation| session.answer(operation))
         }
+        ["ops-table"] => print(table::operations()),
+        ["ops-altered"] => print(table::altered::operations()),
         ["ops-random", seed, count] => {
             print_bytes(random::operations::Operations::new(number(seed)?).take(number(count)?))
         }
         ["ops-damaged", seed, count] => print_bytes(random::damaged::Lines::new(number(seed)?).take(number(count)?)),
         ["ops-compare", operations, answers] => compare_operations(operations, answers),
+        ["ops-met", operations, answers] => {
+            let (operations, answers) = (contents(operations)?, contents(answers)?);
+            let met = ops::met::met(&ops::compare::lines(&operations), &ops::compare::lines(&answers));
+            print_bytes(met.iter().map(|((call, field), count)| format!("{call} {field} {count}").into_bytes()))
+        }
         ["ops-show", operations] => {
             let operations = contents(operations)?;
             print_bytes(
@@ -166,9 +162,9 @@ fn answer(mut answer_of: impl FnMut(&[u8]) -> Option<String>) -> Result<(), Stri
     Ok(())
 }
 
-/// Prints questions, a line each.
-fn print(questions: impl IntoIterator<Item = protocol::Question>) -> Result<(), String> {
-    print_bytes(questions.into_iter().map(|question| question.to_string().into_bytes()))
+/// Prints operations, a line each.
+fn print(operations: impl IntoIterator<Item = ops::Operation>) -> Result<(), String> {
+    print_bytes(operations.into_iter().map(|operation| operation.to_string().into_bytes()))
 }
 
 fn print_bytes(lines: impl IntoIterator<Item = Vec<u8>>) -> Result<(), String> {

@@ -6,6 +6,7 @@ pub mod line;
 mod perform;
 pub mod port;
 mod query;
+pub mod state;
 pub mod status;
 pub mod storage;
 
@@ -71,11 +72,6 @@ impl Module {
 
     pub fn is_one_shot(&self) -> bool {
         self.settings.entries[SEND] == 0
-    }
-
-    /// The status byte between lines, as a serial poll reads it.
-    pub fn serial_poll(&self) -> u8 {
-        self.registers.status_between_lines(self.phase())
     }
 
     pub fn phase(&self) -> Phase {

@@ -14,17 +14,22 @@
 //       LIA, ERR                  255
 //       MARK                      1
 //       T                         2, and at least 1
+//       VALUE                     what the field that NAME names holds; of a setting with a minus too
 // - HEX is an even number, at least 2, of the digits 0 to 9 and a to f, or `-` for no bytes.
 // - HH has exactly 2 such digits, W exactly 8.
+// - NAME is a field's name, of a list with `.` and one part's place, and VALUE as `dump` writes it.
 
 pub mod compare;
 pub mod dump;
+pub mod field;
+pub mod met;
 mod session;
 pub mod shrink;
 
 pub use session::Session;
 
 use crate::hex;
+use field::{Field, Value};
 use std::fmt;
 
 /// The most bytes of an operation.
@@ -45,6 +50,7 @@ pub enum Operation {
     Measured(u32),
     Raise { lia: u8, err: u8 },
     Poke { trace: usize, slot: usize, word: u32 },
+    Alter { field: Field, value: Value },
     Dump,
     Poll,
     Check { capacity: usize, script: Vec<u8> },
@@ -78,6 +84,10 @@ impl Operation {
                 slot: number(slot, u32::MAX)? as usize,
                 word: digits(word, 8)?,
             },
+            ["alter", name, value] => {
+                let field = Field::named(name)?;
+                Operation::Alter { field, value: field.read(value)? }
+            }
             ["dump"] => Operation::Dump,
             ["poll"] => Operation::Poll,
             ["check", capacity, script] => {
@@ -102,6 +112,7 @@ impl fmt::Display for Operation {
             Operation::Measured(frequency) => write!(f, "measured {frequency}"),
             Operation::Raise { lia, err } => write!(f, "raise {lia} {err}"),
             Operation::Poke { trace, slot, word } => write!(f, "poke {} {slot} {word:08x}", trace + 1),
+            Operation::Alter { field, value } => write!(f, "alter {field} {value}"),
             Operation::Dump => write!(f, "dump"),
             Operation::Poll => write!(f, "poll"),
             Operation::Check { capacity, script } => write!(f, "check {capacity} {}", hex::field(script)),
@@ -153,6 +164,10 @@ mod tests {
             "measured 4294967295",
             "raise 255 0",
             "poke 2 4294967295 0000000f",
+            "alter oexp.2 -10500",
+            "alter pair.0 00ec8000",
+            "alter storage paused",
+            "alter queue 0d0a",
             "dump",
             "poll",
             "check 4 2a525354",
@@ -202,6 +217,17 @@ mod tests {
             "poke 0 0 00000000",
             "poke 3 0 00000000",
             "poke 1 4294967296 00000000",
+            "alter",
+            "alter ",
+            "alter harm",
+            "alter harm ",
+            "alter  harm 1",
+            "alter harm 1 1",
+            "alter ddef 1",
+            "alter t1 00000000",
+            "alter HARM 1",
+            "alter harm 1.0",
+            "alter harm 4294967296",
             "check 4",
             "check x 2a",
             "?",

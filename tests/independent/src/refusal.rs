@@ -33,6 +33,7 @@ pub enum Refusal {
     Module,
 }
 
+#[cfg(test)]
 const ALL: [Refusal; 11] = [
     Refusal::Form,
     Refusal::Value,
@@ -48,6 +49,7 @@ const ALL: [Refusal; 11] = [
 ];
 
 impl Refusal {
+    #[cfg(test)]
     pub fn from_number(number: usize) -> Option<Refusal> {
         ALL.get(number.checked_sub(1)?).copied()
     }

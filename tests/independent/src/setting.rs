@@ -81,6 +81,23 @@ pub fn find(name: &str) -> Option<(usize, &'static Setting)> {
     Some((SETTINGS[..at].iter().map(Setting::entries).sum(), &SETTINGS[at]))
 }
 
+/// The query that replies with an entry.
+pub fn query(entry: usize) -> String {
+    let mut first = 0;
+    for setting in &SETTINGS {
+        let count = setting.entries();
+        if entry < first + count {
+            let channel = (entry - first) / setting.values.len() + 1;
+            return match setting.channels {
+                0 => format!("{}?", setting.name),
+                _ => format!("{}?{channel}", setting.name),
+            };
+        }
+        first += count;
+    }
+    unreachable!("entry {entry}")
+}
+
 const fn single(name: &'static str, values: &'static [Value]) -> Setting {
     Setting { name, channels: 0, values }
 }
@@ -183,6 +200,11 @@ mod tests {
             assert_eq!(find(name).map(|(entry, setting)| (entry, setting.name)), Some((entry, name)));
         }
         assert!(find("STRT").is_none());
+        for (entry, text) in
+            [(0, "PHAS?"), (16, "DDEF?1"), (17, "DDEF?2"), (25, "OEXP?3"), (30, "AUXV?4"), (33, "TSTR?")]
+        {
+            assert_eq!(query(entry), text);
+        }
         let names: Vec<String> = SETTINGS
             .iter()
             .flat_map(|setting| {

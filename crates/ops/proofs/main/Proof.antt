@@ -28,8 +28,8 @@ trace-buffer-requires c κs = search needs
 trace-buffer-requires-2 : tie.Need-trace-buffer-requires-2 Inv-loop μ-loop
 trace-buffer-requires-2 c κs = search needs
 
-refused-requires : tie.Need-refused-requires Inv-loop μ-loop
-refused-requires c κs = search needs
+first-requires : tie.Need-first-requires Inv-loop μ-loop
+first-requires c κs = search needs
 
 no-line-requires : tie.Need-no-line-requires Inv-loop μ-loop
 no-line-requires c κs = search needs
@@ -87,7 +87,7 @@ main-spec =
     large-buffer-requires-2
     trace-buffer-requires
     trace-buffer-requires-2
-    refused-requires
+    first-requires
     no-line-requires
     loop-holds
     slice-aggregate-next-line

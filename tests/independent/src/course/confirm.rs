@@ -138,7 +138,7 @@ fn speaks_against(refused: Option<No>, wanted: Option<No>) -> bool {
 
 /// A course to read: its start, its events line by line, and what it refuses.
 fn shown(course: &Course) -> String {
-    let mut text = format!("start: {}\n", ops::dump::dump(&course.start));
+    let mut text = format!("start: {}\n", ops::dump::dump(&course.start.state(), &course.start.traces));
     for (events, line) in course.events.iter().zip(1..) {
         let events: Vec<String> = events.iter().map(|event| event.to_string()).collect();
         text.push_str(&format!("before line {line}: {}\n", events.join(", ")));

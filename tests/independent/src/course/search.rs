@@ -58,7 +58,7 @@ fn branches(path: &Path) -> Vec<Path> {
 
 impl Path {
     fn with(&self, events: Vec<Operation>) -> Path {
-        let mut session = Session { module: self.module.clone() };
+        let mut session = Session::of(self.module.clone());
         for event in &events {
             session.perform(event);
         }

@@ -17,7 +17,7 @@ pub struct Answer {
 }
 
 impl Answer {
-    pub(super) fn refused(refusal: Refusal) -> Answer {
+    pub fn refused(refusal: Refusal) -> Answer {
         Answer { refusal: Some(refusal), ..Answer::default() }
     }
 

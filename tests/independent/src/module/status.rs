@@ -9,6 +9,11 @@ const PON: u8 = 1 << 7;
 pub const LIA_NOT_TAKEN: u8 = 1 << 3;
 pub const LIA_TRIGGERED: u8 = 1 << 6;
 
+/// The bits of the standard and LIA registers that something sets, and those of *SRE.
+pub const STANDARD_BITS: u8 = 0b1111_0101;
+pub const LIA_BITS: u8 = 0b0111_1111;
+pub const SERVICE_BITS: u8 = !SERVICE_REQUEST;
+
 /// Bits of the status byte.
 const STORAGE_IDLE: u8 = 1 << 0;
 const NO_COMMAND: u8 = 1 << 1;
@@ -68,7 +73,7 @@ impl Registers {
 
     /// Sets the enables of a command to a value; service request enable 6 stays 0.
     pub fn enable(&mut self, name: &str, value: u8) {
-        *self.enables(name) = if name == "*SRE" { value & !SERVICE_REQUEST } else { value };
+        *self.enables(name) = if name == "*SRE" { value & SERVICE_BITS } else { value };
     }
 
     pub fn clear_events(&mut self) {

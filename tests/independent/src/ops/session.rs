@@ -3,6 +3,7 @@
 use super::Operation;
 use crate::hex;
 use crate::module::line::Answer;
+use crate::module::state::State;
 use crate::module::Module;
 use crate::point::Point;
 use crate::refusal::Refusal;
@@ -11,16 +12,24 @@ use crate::script;
 /// What stands in a reply buffer before the call.
 const UNTOUCHED: u8 = 0xaa;
 
-/// The answer to what is no operation.
+/// The answer to what is no operation, and to a change that is no call.
 pub const NO_OPERATION: &str = "?";
+const DONE: &str = "K";
 
 pub struct Session {
+    /// The module that the last call left, with its traces.
     pub module: Module,
+    /// The state that the caller hands over instead.
+    altered: Option<State>,
 }
 
 impl Session {
     pub fn new() -> Session {
-        Session { module: Module::refused() }
+        Session::of(Module::refused())
+    }
+
+    pub fn of(module: Module) -> Session {
+        Session { module, altered: None }
     }
 
     /// The answer to a line; nothing for an empty one.
@@ -34,38 +43,87 @@ impl Session {
         })
     }
 
+    /// The state that the next call is given.
+    pub fn state(&self) -> State {
+        self.altered.clone().unwrap_or_else(|| self.module.state())
+    }
+
+    /// The module that a call is given, unless 11 or 9 refuses it.
+    fn admitted(&mut self) -> Result<&mut Module, Refusal> {
+        let state = self.state();
+        if !state.is_allowed() {
+            return Err(Refusal::Module);
+        }
+        if self.module.traces.iter().any(|trace| trace.len() != state.capacity as usize) {
+            return Err(Refusal::Traces);
+        }
+        if self.altered.take().is_some() {
+            let traces = std::mem::take(&mut self.module.traces);
+            self.module = Module::of(state, traces);
+        }
+        Ok(&mut self.module)
+    }
+
+    /// A line or a byte.
+    fn line_call(&mut self, room: usize, call: impl FnOnce(&mut Module) -> Answer) -> String {
+        let answer = self.admitted().map(call).unwrap_or_else(Answer::refused);
+        line_text(&answer, room)
+    }
+
+    fn event(&mut self, call: impl FnOnce(&mut Module) -> Result<(), Refusal>) -> String {
+        let outcome = self.admitted().and_then(call);
+        format!("A {}", number(outcome.err()))
+    }
+
+    /// A serial poll is lent no traces.
+    fn poll(&self) -> String {
+        let state = self.state();
+        match state.is_allowed() {
+            true => format!("P 0 {}", state.registers.status_between_lines(state.phase)),
+            false => format!("P {} 0", Refusal::Module.number()),
+        }
+    }
+
+    fn start(&mut self, serial: u32, port: u32, lengths: [usize; 2]) -> String {
+        let started = Module::start(serial, port, lengths);
+        let refusal = started.as_ref().err().copied();
+        *self = Session::of(started.unwrap_or_else(|_| Module::refused()));
+        format!("R {}", number(refusal))
+    }
+
     pub fn perform(&mut self, operation: &Operation) -> String {
-        let module = &mut self.module;
         match operation {
-            Operation::Start { serial, port, lengths } => {
-                let started = Module::start(*serial, *port, *lengths);
-                let refusal = started.as_ref().err().copied();
-                *module = started.unwrap_or_else(|_| Module::refused());
-                format!("R {}", number(refusal))
+            Operation::Start { serial, port, lengths } => self.start(*serial, *port, *lengths),
+            Operation::Line { line, room } => self.line_call(*room, |module| module.line(line, *room)),
+            Operation::Byte { byte, end_mark, room } => {
+                self.line_call(*room, |module| module.byte(*byte, *end_mark, *room))
             }
-            Operation::Line { line, room } => line_text(&module.line(line, *room), *room),
-            Operation::Byte { byte, end_mark, room } => line_text(&module.byte(*byte, *end_mark, *room), *room),
-            Operation::Pair(words) => event_text(module.pair(words.map(|word| Point { word }))),
-            Operation::Tick => {
+            Operation::Pair(words) => self.event(|module| module.pair(words.map(|word| Point { word }))),
+            Operation::Tick => self.event(|module| {
                 module.tick_event();
-                event_text(Ok(()))
-            }
-            Operation::Trigger => {
+                Ok(())
+            }),
+            Operation::Trigger => self.event(|module| {
                 module.trigger_event();
-                event_text(Ok(()))
-            }
-            Operation::Measured(frequency) => {
+                Ok(())
+            }),
+            Operation::Measured(frequency) => self.event(|module| {
                 module.measured(*frequency);
-                event_text(Ok(()))
-            }
-            Operation::Raise { lia, err } => event_text(module.raise(*lia, *err)),
+                Ok(())
+            }),
+            Operation::Raise { lia, err } => self.event(|module| module.raise(*lia, *err)),
             Operation::Poke { trace, slot, word } => {
-                module.poke(*trace, *slot, Point { word: *word });
-                "K".to_string()
+                self.module.poke(*trace, *slot, Point { word: *word });
+                DONE.to_string()
             }
-            Operation::Dump => super::dump::dump(module),
-            // A module made by these operations is never refused by 11.
-            Operation::Poll => format!("P 0 {}", module.serial_poll()),
+            Operation::Alter { field, value } => {
+                let mut state = self.state();
+                field.set(&mut state, value);
+                self.altered = Some(state);
+                DONE.to_string()
+            }
+            Operation::Dump => super::dump::dump(&self.state(), &self.module.traces),
+            Operation::Poll => self.poll(),
             Operation::Check { capacity, script } => script::text(&script::check(*capacity, script)),
         }
     }
@@ -73,10 +131,6 @@ impl Session {
 
 fn number(refusal: Option<Refusal>) -> usize {
     refusal.map_or(0, Refusal::number)
-}
-
-fn event_text(outcome: Result<(), Refusal>) -> String {
-    format!("A {}", number(outcome.err()))
 }
 
 /// The answer of a line with the whole reply buffer.

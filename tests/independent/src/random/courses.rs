@@ -10,7 +10,7 @@ use crate::setting::HARM;
 /// A course through a script's lines, up to the first line that it refuses something of.
 pub fn course(generator: &mut Generator, capacity: usize, lines: &[&[u8]]) -> Course {
     let start = states::module(generator, capacity);
-    let mut session = Session { module: start.clone() };
+    let mut session = Session::of(start.clone());
     let most_events = generator.pick(&[0, 1, 1, 2, 2, 9]);
     let mut course = Course { start, events: Vec::new(), refused: None };
     for (text, line) in lines.iter().zip(1..) {

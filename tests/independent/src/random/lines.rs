@@ -3,6 +3,7 @@
 use super::generator::Generator;
 use super::spelling;
 use crate::command::{names, Form, FORMS, MOST_LINE_BYTES};
+use crate::setting;
 
 /// Names of document 001 that are no commands here.
 const UNKNOWN_NAMES: &[&str] = &[
@@ -78,6 +79,21 @@ pub fn command(generator: &mut Generator) -> Vec<u8> {
 pub fn lawful(generator: &mut Generator, form: &Form) -> Vec<u8> {
     let arguments: Vec<String> = form.arguments.iter().map(|argument| spelling::number(generator, argument)).collect();
     written(form.name, form.is_query, &arguments)
+}
+
+/// A set command and the query that shows what it has set.
+pub fn set_and_query(generator: &mut Generator) -> Vec<u8> {
+    let sets: Vec<&Form> = FORMS.iter().filter(|form| !form.is_query && !form.arguments.is_empty()).collect();
+    let form = generator.pick(&sets);
+    let arguments: Vec<String> = form.arguments.iter().map(|argument| spelling::number(generator, argument)).collect();
+    let channels = setting::find(form.name).map_or(0, |(_, setting)| setting.channels.min(1) as usize);
+    let mut line = written(form.name, false, &arguments);
+    if generator.chance(5) {
+        damage(generator, &mut line);
+    }
+    line.push(b';');
+    line.extend(written(form.name, true, &arguments[..channels]));
+    line
 }
 
 fn written(name: &str, is_query: bool, arguments: &[String]) -> Vec<u8> {

@@ -1,8 +1,8 @@
 // Random operations of the ops protocol, chosen beside a module that they are performed on.
 
 use super::generator::Generator;
+use super::{alterations, near, scripts};
 use super::{damaged, lines, point};
-use super::{near, scripts};
 use crate::command::MOST_LINE_BYTES;
 use crate::frequency::{LEAST, LIMIT};
 use crate::module::port::Port;
@@ -46,8 +46,11 @@ impl Operations {
             670..=719 => next.push_back(pair(generator)),
             720..=749 => next.push_back(raise(generator)),
             750..=779 => next.push_back(poke(generator, session)),
-            780..=809 => next.push_back(Operation::Poll),
-            810..=839 => next.push_back(check(generator)),
+            780..=799 => next.push_back(Operation::Poll),
+            800..=834 => next.push_back(check(generator)),
+            835..=894 => next.extend(alter(generator, session)),
+            895..=898 => next.extend(alterations::to_another_state(generator, session)),
+            899..=918 => next.extend(read_back(generator, session)),
             _ => next.push_back(Operation::Dump),
         }
     }
@@ -127,6 +130,7 @@ fn line(generator: &mut Generator, session: &Session) -> Vec<u8> {
     let mut line = match generator.below(40) {
         0 | 1 => lines::line(generator),
         2 => lines::odd_line(generator),
+        3..=12 => lines::set_and_query(generator),
         _ => {
             let count = 1 + generator.below(6);
             let commands: Vec<Vec<u8>> = (0..count).map(|_| near::command(generator, &session.module)).collect();
@@ -256,6 +260,54 @@ fn poke(generator: &mut Generator, session: &Session) -> Operation {
     Operation::Poke { trace: generator.below(2), slot, word: point(generator).word }
 }
 
+/// A word into a slot that a point is held in, and what the trace reads send of the trace then.
+fn read_back(generator: &mut Generator, session: &Session) -> Vec<Operation> {
+    let (trace, slot) = (generator.below(2), generator.below(session.module.storage.capacity()));
+    let held = session.module.storage.held();
+    let poke = Operation::Poke { trace, slot, word: point(generator).word };
+    if held == 0 || held > SHORT_TRACE {
+        return vec![poke];
+    }
+    let line = format!("TRCB?{0},0,{held};TRCL?{0},0,{held}", trace + 1).into_bytes();
+    vec![poke, Operation::Line { line, room: 8 * held }]
+}
+
+/// Alterations that mostly break a rule, a few operations that meet them, and mostly the way back.
+fn alter(generator: &mut Generator, session: &Session) -> Vec<Operation> {
+    let changes = alterations::changes(generator, &session.state());
+    let back: Vec<Operation> = changes.iter().rev().map(|change| change.back.clone()).collect();
+    let queries: Vec<String> = changes.iter().filter_map(alterations::Change::query).collect();
+    let mut operations: Vec<Operation> = changes.into_iter().map(|change| change.there).collect();
+    if generator.chance(50) {
+        operations.push(Operation::Line { line: queries.join(";").into_bytes(), room: 64 });
+    }
+    for _ in 0..1 + generator.below(6) {
+        operations.push(call(generator, session));
+    }
+    if generator.chance(85) {
+        operations.extend(back);
+    }
+    operations
+}
+
+/// Any call, or the state.
+fn call(generator: &mut Generator, session: &Session) -> Operation {
+    match generator.below(9) {
+        0 => Operation::Line { line: line(generator, session), room: room(generator) },
+        1 => {
+            let byte = generator.pick(b"A;1?\r\n");
+            Operation::Byte { byte, end_mark: generator.chance(20), room: generator.below(41) }
+        }
+        2 => pair(generator),
+        3 => Operation::Tick,
+        4 => Operation::Trigger,
+        5 => measured(generator, session),
+        6 => raise(generator),
+        7 => Operation::Poll,
+        _ => Operation::Dump,
+    }
+}
+
 fn check(generator: &mut Generator) -> Operation {
     let capacity = match generator.below(20) {
         0 => generator.pick(&[0, 16_384, u32::MAX as usize]),
@@ -293,7 +345,11 @@ mod tests {
             ("A 4 ", 100),
             ("A 5 0 0", 20),
             ("A 6", 50),
-            ("R 0", 200),
+            ("A 9", 5),
+            ("A 11", 400),
+            ("P 0", 100),
+            ("P 11 0", 50),
+            ("R 0", 150),
             ("R 9", 10),
             ("R 10", 10),
             ("K", 100),

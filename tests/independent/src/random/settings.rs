@@ -1,28 +1,12 @@
-// Random settings: allowed ones, and ones with a single value changed.
+// Random settings: allowed ones, and values near the ends of what is kept.
 
 use super::generator::Generator;
 use crate::frequency::{FIRST_LONG_TIME_CONSTANT, LEAST, LIMIT, SLOW_LIMIT};
-use crate::protocol::{LEAST_UNITS, MOST_FREQUENCY, MOST_HARMONIC, MOST_UNITS};
-use crate::setting::{Settings, Value, FMOD, FREQ, HARM, OFLT, VALUES};
+use crate::setting::{Settings, Value, FREQ, HARM, OFLT, VALUES};
 
-pub fn settings(generator: &mut Generator) -> Settings {
-    let mut settings = match generator.below(5) {
-        0 => Settings::start(),
-        _ => allowed(generator),
-    };
-    match generator.below(10) {
-        0..=2 => {}
-        3 => settings.external = external(generator),
-        4 => settings.entries[FREQ] = generator.of_any_size(MOST_UNITS),
-        5 => settings.entries[FMOD] = 1 - settings.entries[FMOD],
-        6 => settings.entries[HARM] = generator.of_any_size(MOST_HARMONIC),
-        _ => {
-            let entry = generator.below(VALUES.len());
-            settings.entries[entry] = near(generator, &VALUES[entry]);
-        }
-    }
-    settings
-}
+/// The largest harmonic, and a frequency beyond all that are allowed.
+const MOST_HARMONIC: i64 = 19_999;
+const MOST_FREQUENCY: i64 = 2_000_000_000;
 
 /// A number of units at, near or between the ends of what is kept.
 pub fn near(generator: &mut Generator, value: &Value) -> i64 {
@@ -32,7 +16,7 @@ pub fn near(generator: &mut Generator, value: &Value) -> i64 {
         2 => value.kept_high - generator.between(0, 2),
         3 => value.kept_high + 1,
         4 => generator.between(-12, 12),
-        5 => generator.between(LEAST_UNITS, MOST_UNITS),
+        5 => generator.of_any_size(MOST_FREQUENCY),
         6 => generator.between(value.kept_low, value.kept_high),
         _ => kept(generator, value),
     }
@@ -50,7 +34,8 @@ fn kept(generator: &mut Generator, value: &Value) -> i64 {
     }
 }
 
-fn external(generator: &mut Generator) -> i64 {
+/// An external frequency, allowed or not.
+pub fn external(generator: &mut Generator) -> i64 {
     match generator.below(6) {
         0 => LEAST + generator.between(-2, 2),
         1 => LIMIT + generator.between(-2, 2),
@@ -72,7 +57,7 @@ pub fn surely_allowed(generator: &mut Generator) -> Settings {
 fn allowed(generator: &mut Generator) -> Settings {
     let mut settings = Settings::start();
     for (entry, value) in VALUES.iter().enumerate() {
-        settings.entries[entry] = kept(generator, value).max(LEAST_UNITS);
+        settings.entries[entry] = kept(generator, value);
     }
     settings.external = generator.of_any_size(LIMIT).max(LEAST);
     let harmonic = generator.of_any_size(MOST_HARMONIC).max(1);

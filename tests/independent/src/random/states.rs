@@ -5,16 +5,11 @@ use super::{courses, near, settings};
 use crate::module::bytes::Input;
 use crate::module::events::ERR_RAISABLE;
 use crate::module::port::Port;
-use crate::module::status::{Register, Registers};
+use crate::module::status::{Register, Registers, LIA_BITS, SERVICE_BITS, STANDARD_BITS};
 use crate::module::storage::{Phase, Storage};
 use crate::module::{Module, MOST_SERIAL};
 use crate::ops::Session;
 use crate::point::{Point, MOST_EXPONENT};
-
-/// The event bits that have a meaning.
-const STANDARD_BITS: u8 = 0b1111_0101;
-const LIA_BITS: u8 = 0b0111_1111;
-const SERVICE_BITS: u8 = 0b1011_1111;
 
 /// The most bytes that wait in a random queue.
 const MOST_WAITING: usize = 256;
@@ -23,7 +18,7 @@ const MOST_WAITING: usize = 256;
 pub fn module(generator: &mut Generator, capacity: usize) -> Module {
     let mut module = made_up(generator, capacity);
     if generator.chance(10) {
-        let mut session = Session { module };
+        let mut session = Session::of(module);
         for _ in 0..1 + generator.below(3) {
             let line = near::command(generator, &session.module);
             session.module.line(&line, usize::MAX);
@@ -78,37 +73,11 @@ fn input(generator: &mut Generator, port: Port) -> Input {
 mod tests {
     use super::*;
 
-    /// Refusal 11's tests, but for those that the types make needless.
-    fn is_allowed(module: &Module) -> bool {
-        let (held, next) = (module.storage.held(), module.storage.next());
-        let capacity = module.storage.capacity();
-        let is_full = held == capacity;
-        let storage_allowed = held <= capacity
-            && (is_full || next == held)
-            && (module.phase() == Phase::Done) == (is_full && module.is_one_shot())
-            && (module.phase() != Phase::Done || next == 0)
-            && (module.phase() != Phase::Reset || held == 0);
-        let registers = module.registers;
-        let ends: &[u8] = if module.port == Port::Gpib { b"\n" } else { b"\r\n" };
-        module.settings.are_allowed()
-            && storage_allowed
-            && module.serial <= MOST_SERIAL
-            && module.latest.iter().all(|point| point.is_legal())
-            && registers.standard.events & !STANDARD_BITS == 0
-            && registers.lia.events & !LIA_BITS == 0
-            && registers.err.events & !ERR_RAISABLE == 0
-            && registers.service & !SERVICE_BITS == 0
-            && module.input.queue.len() <= MOST_WAITING
-            && !module.input.queue.iter().any(|byte| ends.contains(byte))
-            && (module.input.queue.is_empty() || !module.input.dropping)
-            && module.traces.iter().all(|trace| trace.len() == capacity)
-    }
-
     #[test]
     fn states_are_allowed_and_differ() {
         let mut generator = Generator::new(5);
         let modules: Vec<Module> = (0..2_000).map(|at| module(&mut generator, 1 + at % 5)).collect();
-        assert!(modules.iter().all(is_allowed));
+        assert!(modules.iter().all(|module| module.state().is_allowed()));
         for phase in [Phase::Reset, Phase::Running, Phase::Paused, Phase::Done] {
             assert!(modules.iter().filter(|module| module.phase() == phase).count() > 100);
         }

@@ -1,21 +1,17 @@
 // Worked lines: document 01's examples, forms, names, spaces and places.
 
-use super::line;
 use crate::command::{names, MOST_LINE_BYTES};
-use crate::protocol::Question;
 
-pub fn questions() -> Vec<Question> {
-    let mut questions = Vec::new();
-    questions.extend(EXAMPLES.iter().map(line));
-    questions.extend(forms());
-    questions.extend(ORDER_AND_FORM.iter().map(line));
-    questions.extend(damaged_names());
-    questions.extend(UNKNOWN_NAMES.iter().map(line));
-    questions.extend(SPACES_AND_CASE.iter().map(line));
-    questions.extend(PLACES.iter().map(line));
-    questions.extend(long_lines());
-    questions.extend(single_bytes());
-    questions
+pub fn lines() -> Vec<Vec<u8>> {
+    let mut lines = Vec::new();
+    for texts in [EXAMPLES, ORDER_AND_FORM, UNKNOWN_NAMES, SPACES_AND_CASE, PLACES] {
+        lines.extend(texts.iter().map(|text| text.as_bytes().to_vec()));
+    }
+    lines.extend(forms());
+    lines.extend(damaged_names());
+    lines.extend(long_lines());
+    lines.extend(single_bytes());
+    lines
 }
 
 /// The command lines of document 01's examples.
@@ -59,11 +55,11 @@ const EXAMPLES: &[&str] = &[
 ];
 
 /// Every name with and without "?", a line each, with 0 to 4 arguments.
-fn forms() -> impl Iterator<Item = Question> {
+fn forms() -> impl Iterator<Item = Vec<u8>> {
     names().into_iter().flat_map(|name| {
         ["", "?"].map(|mark| {
             let commands = [0, 1, 2, 3, 4].map(|count| format!("{name}{mark} {}", vec!["1"; count].join(",")));
-            line(commands.join(";"))
+            commands.join(";").into_bytes()
         })
     })
 }
@@ -131,7 +127,7 @@ const ORDER_AND_FORM: &[&str] = &[
 ];
 
 /// For each name: cut short, lengthened, with another letter at each place, and as it should be.
-fn damaged_names() -> impl Iterator<Item = Question> {
+fn damaged_names() -> impl Iterator<Item = Vec<u8>> {
     names().into_iter().map(|name| {
         let mut texts = vec![name[..3].to_string(), format!("{name}S"), format!("S{name}"), name[1..].to_string()];
         for at in 0..name.len() {
@@ -145,7 +141,7 @@ fn damaged_names() -> impl Iterator<Item = Question> {
         texts.push(format!("*{name}"));
         texts.push(name.to_lowercase());
         let lines: Vec<String> = texts.iter().map(|text| format!("{text};{text}?")).collect();
-        line(lines.join(";"))
+        lines.join(";").into_bytes()
     })
 }
 
@@ -242,27 +238,25 @@ const PLACES: &[&str] = &[
 ];
 
 /// Lines of 255, 256 and 257 bytes.
-fn long_lines() -> Vec<Question> {
-    let mut questions = Vec::new();
+fn long_lines() -> Vec<Vec<u8>> {
+    let mut lines = Vec::new();
     for length in MOST_LINE_BYTES - 1..=MOST_LINE_BYTES + 1 {
-        questions.push(line(";".repeat(length)));
-        questions.push(line(" ".repeat(length)));
-        questions.push(line("A".repeat(length)));
-        questions.push(line(format!("HARM{:>1$}", 5, length - 4)));
-        questions.push(line(format!("{:\r<1$}", "HARM 5", length)));
-        let commands: String = "*RST;".chars().cycle().take(length).collect();
-        questions.push(line(commands));
-        let digits: String = "HARM ".chars().chain(std::iter::repeat('1')).take(length).collect();
-        questions.push(line(digits));
+        lines.push(";".repeat(length));
+        lines.push(" ".repeat(length));
+        lines.push("A".repeat(length));
+        lines.push(format!("HARM{:>1$}", 5, length - 4));
+        lines.push(format!("{:\r<1$}", "HARM 5", length));
+        lines.push("*RST;".chars().cycle().take(length).collect());
+        lines.push("HARM ".chars().chain(std::iter::repeat('1')).take(length).collect());
     }
-    questions
+    lines.into_iter().map(String::into_bytes).collect()
 }
 
 /// Each byte value in a number and in a name.
-fn single_bytes() -> impl Iterator<Item = Question> {
+fn single_bytes() -> impl Iterator<Item = Vec<u8>> {
     (0..=255u8).map(|byte| {
         let [number, name, end] = [[b"HARM 1", &[byte][..], b"2"], [b"H", &[byte], b"RM 3"], [b"HARM", &[byte], b""]]
             .map(|parts| parts.concat());
-        line([number, name, end].join(&b';'))
+        [number, name, end].join(&b';')
     })
 }

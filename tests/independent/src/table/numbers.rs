@@ -1,14 +1,12 @@
 // Worked numbers: ends of ranges, ties at the step, spellings, and texts that are no numbers.
 
-use super::line;
 use crate::argument::{Argument, Rule};
 use crate::command::{Form, FORMS};
 use crate::decimal::Decimal;
 use crate::frequency;
 use crate::number::MOST_DIGITS;
-use crate::protocol::Question;
 
-pub fn questions() -> Vec<Question> {
+pub fn lines() -> Vec<Vec<u8>> {
     let mut texts = Vec::new();
     for form in FORMS.iter() {
         for place in 0..form.arguments.len() {
@@ -29,9 +27,9 @@ pub fn questions() -> Vec<Question> {
     for text in NO_NUMBERS {
         texts.push(format!("HARM {text};PHAS {text};DDEF 1,{text},1;OEXP? {text}"));
     }
-    let mut questions: Vec<Question> = texts.iter().map(line).collect();
-    questions.push(line(b"HARM 5\xc8;HARM \xc85;HARM \xb5"));
-    questions
+    let mut lines: Vec<Vec<u8>> = texts.into_iter().map(String::into_bytes).collect();
+    lines.push(b"HARM 5\xc8;HARM \xc85;HARM \xb5".to_vec());
+    lines
 }
 
 /// A command of this form with a number at one place and 1 at the others.

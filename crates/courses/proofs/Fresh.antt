@@ -1,0 +1,112 @@
+-- The start of a course: its answer tells whether a capacity is legal, and what it makes is one that there can be.
+use Prim.Native.Nat.{ℕ, zero, suc, _^_, _<_}
+use native.Mathlib.Omega.{arith}
+use mathlib.Core.Bool.{Bool, true, false, cond, and-eq-true-iff}
+use mathlib.Core.Path.{_≡_, refl, sym, _∙_}
+use mathlib.Core.List.{List, [], _∷_}
+use lib.Dec.{leb, ltb}
+use lib.ListN.{replicate}
+use borrow.Author.Tests.{eq-eqb, leb-true, ltb-true}
+use Rattle.refusal.specs.declared.Refusal.the-variants.{BadTraces}
+use Rattle.refusal.specs.declared.Outcome.the-variants.{Done, Refused}
+use Rattle.settings.specs.Table.{table, startSettings}
+use Rattle.state.specs.State.{startState}
+use Rattle.state.specs.declared.Unit.{Unit as ModuleUnit}
+use Rattle.module.specs.Start.{unitKnown, tracesFit, freshModule, startOf}
+use Rattle.script.specs.Check.{capacityFits}
+use Rattle.demands.specs.Representable.{Every, Word, Byte, ModuleFits}
+use Rattle.demands.proofs.Bytes.{all}
+use Rattle.courses.specs.Course.{WorldFits, StartAnswers, Startable, freshWorld}
+use Rattle.courses.proofs.Found.{not-done}
+
+-- ---- the start's answer
+
+module _ (capacity : ℕ) where
+  -- the one answer that a capacity has, legal or not
+  answer-is : (t : Bool) → capacityFits capacity ≡ t → StartAnswers capacity (cond t Done (Refused BadTraces))
+  unfolding startOf tracesFit
+  answer-is true e serial port k = rw (k, eq-eqb capacity capacity refl, e) refl
+  answer-is false e serial port k = rw (k, eq-eqb capacity capacity refl, e) refl
+
+  pub fits-start : capacityFits capacity ≡ true → Startable capacity
+  fits-start e = answer-is true e
+
+  pub unfit-start : capacityFits capacity ≡ false → StartAnswers capacity (Refused BadTraces)
+  unfit-start e = answer-is false e
+
+  -- serial number 0 and GPIB are taken
+  known : unitKnown 0 1 ≡ true
+  unfolding unitKnown
+  known = refl
+
+  -- so the answer tells which it is
+  answers-apart : Startable capacity → StartAnswers capacity (Refused BadTraces) → ⊥
+  answers-apart s u = not-done BadTraces (sym (u 0 1 known) ∙ s 0 1 known)
+
+  pub start-fits : Startable capacity → capacityFits capacity ≡ true
+  start-fits s = by (capacityFits capacity) refl where
+    by : (t : Bool) → capacityFits capacity ≡ t → t ≡ true
+    by true e = refl
+    by false e = absurd (answers-apart s (unfit-start e))
+
+  pub start-unfit : StartAnswers capacity (Refused BadTraces) → capacityFits capacity ≡ false
+  start-unfit u = by (capacityFits capacity) refl where
+    by : (t : Bool) → capacityFits capacity ≡ t → t ≡ false
+    by true e = absurd (answers-apart (fits-start e) u)
+    by false e = refl
+
+-- ---- what is started
+
+abbrev freshUnit : ℕ → ModuleUnit
+freshUnit capacity = record { serial = 0; port = 1; capacity = capacity }
+
+every-below : (n : ℕ) (xs : List ℕ) → all (λ x. ltb x n) xs ≡ true → Every (λ x. x < n) xs
+every-below n [] e = tt
+every-below n (x ∷ xs) e =
+    let p = and-eq-true-iff (ltb x n) (all (λ x. ltb x n) xs) .0 e in
+    (ltb-true x n (p .0), every-below n xs (p .1))
+
+every-replicate : (Such : ℕ → Type 0) (x : ℕ) → Such x → (n : ℕ) → Every Such (replicate n x)
+every-replicate Such x k zero = tt
+every-replicate Such x k (suc n) = (k, every-replicate Such x k n)
+
+start-values : Every Word (startSettings .values)
+unfolding startSettings table
+start-values = every-below (2 ^ 32) (startSettings .values) refl
+
+module _ (capacity : ℕ) (fits : capacityFits capacity ≡ true) where
+  pub fresh-core : freshWorld capacity .core ≡ freshModule (freshUnit capacity)
+  unfolding freshWorld startOf tracesFit unitKnown
+  fresh-core = rw (eq-eqb capacity capacity refl, fits) refl
+
+  small : capacity < 2 ^ 32
+  small = omega (arith, leb-true capacity 16383 (and-eq-true-iff (leb 1 capacity) (leb capacity 16383) .0 fits .1))
+
+  module-fits : ModuleFits (freshModule (freshUnit capacity))
+  unfolding freshModule startState startSettings table
+  module-fits =
+      record {
+        state =
+            record {
+              full = refl;
+              values = start-values;
+              external = omega arith;
+              held = omega arith;
+              next = omega arith;
+              registers = record { standard = omega arith; lia = omega arith; errors = omega arith };
+              enables =
+                  record { standard = omega arith; service = omega arith; lia = omega arith; errors = omega arith };
+              latest = (omega arith, omega arith);
+              unit = (omega arith, omega arith, small);
+            };
+        queue = record { full = refl; bytes = every-replicate Byte 0 (omega arith) 256; len = omega arith };
+      }
+
+  pub fresh-fits : WorldFits (freshWorld capacity)
+  unfolding freshWorld
+  fresh-fits =
+      record {
+        core = rw fresh-core module-fits;
+        one = every-replicate Word 0 (omega arith) capacity;
+        two = every-replicate Word 0 (omega arith) capacity;
+      }

@@ -1,0 +1,96 @@
+-- TRIG does what the trigger event does. Assumes nothing.
+use Prim.Native.Nat.{ℕ}
+use native.Mathlib.Omega.{arith}
+use mathlib.Core.Bool.{Bool, false}
+use mathlib.Core.List.{List, []}
+use mathlib.Core.Path.{_≡_, refl, _∙_}
+use lib.ListN.{length}
+use borrow.Author.Tests.{le-leb}
+use Rattle.divide.specs.Ascii.{bytes}
+use Rattle.divide.specs.Divide.{parts, onHead}
+use Rattle.clean.specs.Clean.{cleaned}
+use Rattle.number.specs.Number.{begins}
+use Rattle.refusal.specs.Answer.{firstOf, drops}
+use Rattle.refusal.specs.declared.Refusal.{Refusal}
+use Rattle.refusal.specs.declared.Outcome.{Outcome}
+use Rattle.refusal.specs.declared.Outcome.the-variants.{Done, Refused}
+use Rattle.name.specs.Names.{meaningIn}
+use Rattle.name.specs.declared.Action.the-variants.{Trigger}
+use Rattle.command.specs.Arguments.{arguments}
+use Rattle.command.specs.Parsed.{parsedOf, alone, setWith}
+use Rattle.command.specs.declared.Kind.the-variants.{Act}
+use Rattle.state.specs.Storing.{triggerOf, sampledBy}
+use Rattle.state.specs.declared.State.{State}
+use Rattle.allow.specs.Allows.{allowsOf}
+use Rattle.change.specs.Change.{settingsAfter, restoredBy, storageBy, storageAfter, externalBy, externalAfter}
+use Rattle.change.specs.Change.{movingAfter, registersBy, registersAfter, enablesAfter, changedBy, stateAfter}
+use Rattle.reply.specs.Reply.{fitsIn}
+use Rattle.answer.specs.Reply.{replyOf}
+use Rattle.line.specs.Perform.{Effect, doneBy, performed, commandOf}
+use Rattle.line.specs.Line.{startLine, afterOf}
+use Rattle.event.specs.Event.{sampledIn, eventOf}
+use Rattle.event.specs.declared.Event.the-variants as event
+use Rattle.module.specs.Module.{guardOf}
+use Rattle.module.specs.declared.Module.{Module}
+use Rattle.lockin.specs.Calls.{guarded, ran, lineCall, guardedEvent, eventCall}
+use Rattle.demands.specs.Points.{DoesAs, TrigIsTrigger}
+use Rattle.demands.proofs.Says.{Says, said-call}
+
+says-trig : Says (bytes "TRIG") (Act Trigger)
+unfolding cleaned parts onHead parsedOf begins meaningIn setWith arguments alone
+says-trig = record { short = omega arith; kept = refl; single = refl; read = refl }
+
+-- what the trigger event does, as a command's effect
+abbrev triggered : State → List ℕ → List ℕ → Effect
+triggered s one two =
+    let e = eventOf event.Trigger s one two in
+    record { state = e .state; one = e .one; two = e .two; out = []; outcome = e .outcome }
+
+trig-done : (s : State) (one two : List ℕ) → doneBy (Act Trigger) [] s one two ≡ triggered s one two
+unfolding doneBy stateAfter changedBy settingsAfter restoredBy movingAfter externalAfter externalBy storageAfter
+    storageBy registersAfter registersBy enablesAfter eventOf
+    sampledIn sampledBy triggerOf
+trig-done s one two = refl
+
+trig-performed : (room : ℕ) (waiting : Bool) (s : State) (one two : List ℕ) →
+    performed room waiting (Act Trigger) s one two ≡ triggered s one two
+unfolding performed allowsOf replyOf fitsIn
+trig-performed room waiting s one two = rw (le-leb 0 room (omega arith)) (trig-done s one two)
+
+trig-command : (room : ℕ) (waiting : Bool) (s : State) (one two : List ℕ) →
+    commandOf room waiting (parsedOf (bytes "TRIG")) s one two ≡ triggered s one two
+unfolding commandOf
+trig-command room waiting s one two = rw (says-trig .read) (trig-performed room waiting s one two)
+
+-- the line's call where neither 11 nor 9 refuses it
+trig-call : (room : ℕ) (m : Module) (one two : List ℕ) → guardOf m (length one) (length two) ≡ Done →
+    lineCall room (bytes "TRIG") m one two
+    ≡ ran (afterOf (startLine (m .state) one two) (triggered (m .state) one two)) (m .queue)
+trig-call room m one two e =
+    said-call (bytes "TRIG") (Act Trigger) says-trig room m one two e
+    ∙ rw (trig-performed room false (m .state) one two)
+
+module _ (room : ℕ) (m : Module) (one two : List ℕ) where
+  both-done : guardOf m (length one) (length two) ≡ Done →
+      DoesAs (lineCall room (bytes "TRIG") m one two) (eventCall event.Trigger m one two)
+  unfolding eventCall guardedEvent afterOf
+  both-done e = rw (trig-call room m one two e, e) (record { after = refl; first = refl; second = refl; reply = refl })
+
+  both-refused : (r : Refusal) → guardOf m (length one) (length two) ≡ Refused r →
+      DoesAs (lineCall room (bytes "TRIG") m one two) (eventCall event.Trigger m one two)
+  unfolding lineCall guarded eventCall guardedEvent
+  both-refused r e = rw e (record { after = refl; first = refl; second = refl; reply = refl })
+
+  does-as : (o : Outcome) → guardOf m (length one) (length two) ≡ o →
+      DoesAs (lineCall room (bytes "TRIG") m one two) (eventCall event.Trigger m one two)
+  does-as Done e = both-done e
+  does-as (Refused r) e = both-refused r e
+
+pub trig-is-trigger : TrigIsTrigger
+unfolding eventCall guardedEvent eventOf sampledIn afterOf firstOf drops
+trig-is-trigger =
+    record {
+      command = trig-command;
+      line = λ room m one two. does-as room m one two (guardOf m (length one) (length two)) refl;
+      answers = λ room m one two e. (rw (trig-call room m one two e), rw e);
+    }
