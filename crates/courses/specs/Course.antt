@@ -5,6 +5,7 @@ use mathlib.Core.Path.{_≡_}
 use mathlib.Core.List.{List, [], _∷_}
 use lib.Dec.{leb}
 use lib.ListN.{length}
+use Rattle.clean.specs.Clean.{lineLimit}
 use Rattle.event.specs.declared.Event.{Event}
 use Rattle.line.specs.Line.{lineOf}
 use Rattle.refusal.specs.declared.Answer.{Answer}
@@ -59,7 +60,7 @@ after g line w = afterLine (g .room) line (before g w)
 
 -- "never too small (no 4)": whether a line that runs is refused by 4, which drops its rest
 unfoldable pub crowded : ℕ → List ℕ → World → Bool
-crowded room line w = cond (leb (length line) 256) (lineOf room line (w .core .state) (w .one) (w .two) .dropped) false
+crowded room line w = cond (leb (length line) lineLimit) (lineOf room line (w .core .state) (w .one) (w .two) .dropped) false
 
 abbrev pub Roomy : (ls : List (List ℕ)) → Gaps ls → World → Type 0
 Roomy [] g w = Unit {0}

@@ -11,7 +11,7 @@ use mathlib.Core.Bool.{Bool, true}
 use mathlib.Core.List.{List, [], _∷_, _++_, map, List·Memᴰ}
 use lib.ListN.{length}
 use Rattle.divide.specs.Divide.{parts}
-use Rattle.clean.specs.Clean.{cleaned}
+use Rattle.clean.specs.Clean.{lineLimit, cleaned}
 use Rattle.text.specs.Text.{plain}
 use Rattle.name.specs.Names.{meaningOf}
 use Rattle.name.specs.declared.Meaning.the-variants.{Setting, Channel, ChannelPair}
@@ -52,7 +52,7 @@ pub data IsSetting : Address → Type 0 where
 -- a line that is one command and is refused by neither 1 nor 2: "at most 256 bytes", of which none is dropped or changed, no ";" (59) divides it,
 -- and it is taken
 pub record Says (text : List ℕ) (kind : Kind) : Type 0 where
-  pub short : length text ≤ 256
+  pub short : length text ≤ lineLimit
   pub kept : cleaned text ≡ text
   pub single : parts 59 text ≡ text ∷ []
   pub read : parsedOf text ≡ taken kind

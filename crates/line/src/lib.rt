@@ -6,6 +6,7 @@ ghost use Rattle.divide.specs.Divide.{parts};
 ghost use Rattle.command.specs.Parsed.{parsedOf};
 ghost use Rattle.line.specs.Perform.{refusedWith, performed, commandOf, Does};
 ghost use Rattle.line.specs.Line.{progressAfter, stepOf, runAll, startLine, lineOf, lineAt, Runs};
+ghost use Rattle.clean.specs.Clean.{lineLimit};
 ghost use Rattle.clean.specs.Texts.{semicolon};
 use command::Command;
 use command::Parsed;
@@ -164,7 +165,7 @@ pub fn run_line(
     two: &mut [u32],
     reply: &mut [u8],
 ) -> Progress
-    requires { ⌜ length (now line) ≤ 256 ⌝ }
+    requires { ⌜ length (now line) ≤ lineLimit ⌝ }
     ensures { λ r. ⌜ Runs (lineOf (length (now (reply .entry))) (now (line .entry)) s (now (one .entry)) (now (two .entry))) r (now (one .exit)) (now (two .exit)) (now (reply .exit)) (now (reply .entry)) ⌝ }
 {
     let c = clean::clean(line);

@@ -59,7 +59,8 @@ tooLong m q one two =
 -- "A line handed over whole uses no queue; too long, it is 5 and only sets INP."
 unfoldable pub wholeLine : ℕ → List ℕ → Module → List ℕ → List ℕ → Call
 wholeLine room line m one two =
-    cond (leb (length line) 256) (ran (lineOf room line (m .state) one two) (m .queue)) (tooLong m (m .queue) one two)
+    cond (leb (length line) queue.lineLimit)
+    (ran (lineOf room line (m .state) one two) (m .queue)) (tooLong m (m .queue) one two)
 
 unfoldable pub lineCall : ℕ → List ℕ → Module → List ℕ → List ℕ → Call
 lineCall room line m one two = guarded (guardOf m (length one) (length two)) (wholeLine room line m one two) m one two

@@ -14,7 +14,7 @@ use Rattle.refusal.specs.declared.Told.{Told}
 use Rattle.refusal.specs.Answer.{toldOf}
 use Rattle.state.specs.State.{markedBy}
 use Rattle.state.specs.declared.State.{State}
-use Rattle.queue.specs.Queue.{fedOf}
+use Rattle.queue.specs.Queue.{lineLimit, fedOf}
 use Rattle.queue.specs.Parts.{queueOf, Tells}
 use Rattle.queue.specs.declared.QueueStep.{QueueStep}
 use Rattle.queue.specs.declared.Ended.{Ended}
@@ -69,7 +69,7 @@ pub record Has (e : Effect) (r : StateResult) (one two new old : List ℕ) : Typ
 
 -- a line of so many bytes handed over whole
 unfoldable pub wholeEnd : ℕ → Ended
-wholeEnd len = cond (leb len 256) ended.Line ended.TooLong
+wholeEnd len = cond (leb len lineLimit) ended.Line ended.TooLong
 
 -- what a byte does to the queue's numbers: nothing where it is refused
 unfoldable pub GuardedStep : Outcome → ℕ → Bool → ℕ → ℕ → Bool → QueueStep → Type 0

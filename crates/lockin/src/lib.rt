@@ -2,6 +2,7 @@
 ghost use mathlib.Core.Path.{_≡_};
 ghost use Prim.Native.Nat.{_≤_};
 ghost use lib.ListN.{length};
+ghost use Rattle.clean.specs.Clean.{lineLimit};
 ghost use Rattle.refusal.specs.Answer.{toldOf};
 ghost use Rattle.event.specs.Event.{eventOf, Occurs};
 ghost use Rattle.module.specs.Start.{startOf};
@@ -59,7 +60,7 @@ fn length_told(p: Progress) -> usize
 
 // A line that runs.
 fn run(s: State, text: &[u8], one: &mut [u32], two: &mut [u32], reply: &mut [u8]) -> StateResult
-    requires { ⌜ length (now text) ≤ 256 ⌝ }
+    requires { ⌜ length (now text) ≤ lineLimit ⌝ }
     ensures { λ r. ⌜ Has
         (lineEffect (length (now (reply .entry))) (now (text .entry)) s (now (one .entry)) (now (two .entry)))
         r (now (one .exit)) (now (two .exit)) (now (reply .exit)) (now (reply .entry)) ⌝ }
@@ -93,7 +94,7 @@ fn end_line(
     two: &mut [u32],
     reply: &mut [u8],
 ) -> StateResult
-    requires { ⌜ length (now text) ≤ 256 ⌝ }
+    requires { ⌜ length (now text) ≤ lineLimit ⌝ }
     ensures { λ r. ⌜ Has
         (endEffect ended (length (now (reply .entry))) (now (text .entry)) s (now (one .entry)) (now (two .entry)))
         r (now (one .exit)) (now (two .exit)) (now (reply .exit)) (now (reply .entry)) ⌝ }
@@ -118,7 +119,7 @@ fn end_guarded(
     two: &mut [u32],
     reply: &mut [u8],
 ) -> StateResult
-    requires { ⌜ length (now text) ≤ 256 ⌝ }
+    requires { ⌜ length (now text) ≤ lineLimit ⌝ }
     ensures { λ r. ⌜ Has
         (guardedEffect outcome
         (endEffect ended (length (now (reply .entry))) (now (text .entry)) s (now (one .entry)) (now (two .entry)))
