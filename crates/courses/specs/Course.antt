@@ -60,7 +60,8 @@ after g line w = afterLine (g .room) line (before g w)
 
 -- "never too small (no 4)": whether a line that runs is refused by 4, which drops its rest
 unfoldable pub crowded : ℕ → List ℕ → World → Bool
-crowded room line w = cond (leb (length line) lineLimit) (lineOf room line (w .core .state) (w .one) (w .two) .dropped) false
+crowded room line w =
+    cond (leb (length line) lineLimit) (lineOf room line (w .core .state) (w .one) (w .two) .dropped) false
 
 abbrev pub Roomy : (ls : List (List ℕ)) → Gaps ls → World → Type 0
 Roomy [] g w = Unit {0}
