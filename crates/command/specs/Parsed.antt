@@ -92,7 +92,8 @@ unfoldable pub setEnable : Register → List (List ℕ) → Parsed
 setEnable r [] = malformed
 setEnable r (v ∷ []) = one (λ v. with (wholeOf 0 registerMost v) λ x. taken (Set (set.Enable r x))) (v ∷ [])
 setEnable r (i ∷ v ∷ more) =
-    two (λ i v. with (wholeOf 0 bitMost i) λ b. with (wholeOf 0 1 v) λ x. taken (Set (set.EnableBit r b x))) (i ∷ v ∷ more)
+    two (λ i v. with (wholeOf 0 bitMost i) λ b. with (wholeOf 0 1 v) λ x. taken (Set (set.EnableBit r b x)))
+    (i ∷ v ∷ more)
 
 -- "Where i picks a channel the query takes only i"
 unfoldable pub queryChannel : ℕ → ℕ → List (List ℕ) → Parsed

@@ -1,6 +1,8 @@
 // Standard input, read to its end.
 ghost use mathlib.Core.Path.{_≡_};
+ghost use Prim.Native.Nat.{_+_};
 ghost use lib.ListN.{length};
+ghost use Rattle.script_input.specs.Input.{scriptLimit};
 use crate::LIMIT;
 use input_bytes::Input;
 use input_bytes::take;
@@ -11,7 +13,7 @@ const ROOM: usize = LIMIT + 1;
 
 // Bytes to lend for a script.
 pub fn buffer() -> [u8; ROOM]
-    ensures { λ r. ⌜ 60001 ≡ length r ⌝ }
+    ensures { λ r. ⌜ scriptLimit + 1 ≡ length r ⌝ }
 {
     [0; ROOM]
 }

@@ -1,5 +1,5 @@
--- The limits that several rules name, each written here alone: the capacity of the traces, frequencies and time constants
--- (document 01, "Settings" and "Storing points").
+-- The limits that several rules name, each written here alone: the capacity of the traces, frequencies and time
+-- constants (document 01, "Settings" and "Storing points").
 use Prim.Native.Nat.{ℕ, _*_}
 use mathlib.Core.Bool.{Bool, _&&_}
 use lib.Dec.{leb}

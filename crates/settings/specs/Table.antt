@@ -52,7 +52,7 @@ unfoldable pub table : List Row
 table =
     phase  -- 0 PHAS x: -360.00 to 729.99, 0.01
     ∷ whole 0 1 1  -- 1 FMOD i: 0 external, 1 internal; start 1
-    ∷ above 4 frequencyLow frequencyHigh 1 frequencyStart  -- 2 FREQ f: 0.001 to 102000 Hz; start 1000; step by the value
+    ∷ above 4 frequencyLow frequencyHigh 1 frequencyStart  -- 2 FREQ f: 0.001 to 102000 Hz; start 1000 (step by value)
     ∷ whole 0 2 0  -- 3 RSLP i: 0-2
     ∷ whole 1 19999 1  -- 4 HARM i: 1-19999; start 1
     ∷ above 3 4 5000 2 1000  -- 5 SLVL x: 0.004 to 5.000 V, 0.002; start 1
