@@ -152,7 +152,6 @@ int main(int argc, char **argv)
         free(s.bytes);
         return FAILED;
     }
-    /* The buffer is never NULL: reading makes room before it reads. */
     status = print_verdict(glazeotter_check(s.bytes, s.length, capacity));
     free(s.bytes);
     return status;

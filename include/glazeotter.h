@@ -3,8 +3,8 @@
  * Link with libconsole.a, which `rt staticlib console` writes to target/staticlib/.
  *
  * The check's own proofs are in Rattle (crates/console, crates/script, crates/two_courses,
- * crates/courses). They cover neither this header nor a caller in C: that the arguments are
- * as asked below is the caller's part.
+ * crates/courses). They cover neither this header nor a caller in C: that script has length
+ * bytes is the caller's part.
  */
 #ifndef GLAZEOTTER_H
 #define GLAZEOTTER_H
@@ -16,11 +16,14 @@
 extern "C" {
 #endif
 
+/* The check as the library has it: script must not be NULL, even where length is 0. Call
+ * glazeotter_check, which has no such rule. */
+uint64_t glazeotter_check_bytes(const uint8_t *script, size_t length, uint32_t capacity);
+
 /* Whether any bench with traces of this capacity can refuse a command of this script.
  *
  * script     the script's bytes: lines ended by LF, the last may lack it; no NUL is needed at
- *            the end. It must not be NULL, even where length is 0: an empty script is
- *            handed over as a pointer to any byte of the caller's, and that byte is not read.
+ *            the end. Where length is 0 it may be any pointer, NULL too, and is not used.
  * length     how many bytes; any number, 0 too.
  * capacity   the capacity of both traces; any number: one that is not 1 to 16383 is refusal 9.
  *
@@ -32,7 +35,12 @@ extern "C" {
  * and the refusal of the first command, or line, that is refused: read them by the three
  * functions below.
  */
-uint64_t glazeotter_check(const uint8_t *script, size_t length, uint32_t capacity);
+static inline uint64_t glazeotter_check(const uint8_t *script, size_t length, uint32_t capacity)
+{
+    static const uint8_t no_byte = 0;
+
+    return glazeotter_check_bytes(length == 0 ? &no_byte : script, length, capacity);
+}
 
 /* The refusals that the check gives. */
 #define GLAZEOTTER_MALFORMED 1        /* no command: unknown name, wrong form, count or number text, "?" missing or unwanted */

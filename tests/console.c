@@ -1,7 +1,7 @@
 /* Answers operations `check CAP HEX` of docs/ops-protocol.md, one a line on standard input, through the check's C entry.
  *
  * For each it writes the number, then the line, the place and the refusal as include/glazeotter.h reads them off. Each script is
- * handed over twice, in memory of exactly its length, and must keep its bytes.
+ * handed over twice, in memory of exactly its length, and must keep its bytes; one of no bytes also as NULL.
  */
 #include "glazeotter.h"
 
@@ -63,6 +63,8 @@ static uint64_t check(const char *hex, uint32_t capacity)
         fail("the check wrote to the script");
     if (glazeotter_check(same, length, capacity) != answer)
         fail("the check answers the same script differently");
+    if (length == 0 && glazeotter_check(NULL, 0, capacity) != answer)
+        fail("the check answers NULL differently from a script of no bytes");
     free(script);
     free(same);
     return answer;

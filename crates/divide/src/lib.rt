@@ -1,6 +1,6 @@
 // Bytes divided at a separator: where the first part ends.
 ghost use mathlib.Core.Path.{_≡_};
-ghost use Prim.Native.Nat.{_+_, _≤_};
+ghost use Prim.Native.Nat.{_+_, _≤_, max};
 ghost use lib.ListN.{length, drop};
 ghost use Rattle.divide.specs.Divide.{span};
 
@@ -18,11 +18,13 @@ pub fn span_of(s: &[u8], separator: u8) -> usize
     i
 }
 
-// Where the part that starts at a ends.
+// Where the part that starts at a ends: at a itself where that is past the last byte.
 pub fn end_of(s: &[u8], separator: u8, a: usize) -> usize
-    requires { ⌜ a ≤ length (now s) ⌝ }
     ensures { λ r. ⌜ r ≡ a + span separator (drop a (now (s .entry))) ⌝ }
-    ensures { λ r. ⌜ (a ≤ r) × (r ≤ length (now (s .entry))) ⌝ }
+    ensures { λ r. ⌜ (a ≤ r) × (r ≤ max a (length (now (s .entry)))) ⌝ }
 {
+    if s.len() < a {
+        return a;
+    }
     a + span_of(&s[a..], separator)
 }

@@ -37,7 +37,8 @@ use Rattle.module.specs.Module.{allowedModule, guardOf}
 use Rattle.lockin.specs.Calls.{guarded, wholeLine, lineCall, guardedEvent, eventCall}
 use Rattle.two_courses.specs.Courses.{resets, measuredHigh, triggeredHigh, gapOf, kindRefusal, textRefusal, kindAfter, textAfter}
 use Rattle.script.specs.Check.{answerAt, textsAnswer, textsAfter, verdictOf, linesVerdict, withoutLast, checkOf}
-use Rattle.examples.specs.Examples.{lineSeen, low16, wordOf, floatSeen, verdictSeen, seenOf, table, Examples}
+use Rattle.verdict.specs.Said.{said}
+use Rattle.examples.specs.Examples.{lineSeen, low16, wordOf, floatSeen, seenOf, table, Examples}
 
 -- every definition that an example runs through is unfolded, from the text of a number up to the calls
 pub examples : Examples
@@ -60,5 +61,5 @@ unfolding span onHead parts allDigits begins unsigned isMantissa isNumber decima
     numbered numbersOf allowedModule guardOf guarded wholeLine lineCall guardedEvent eventCall
     resets measuredHigh triggeredHigh gapOf kindRefusal textRefusal kindAfter textAfter answerAt textsAnswer textsAfter
     verdictOf linesVerdict withoutLast checkOf
-    lineSeen low16 wordOf floatSeen verdictSeen seenOf table
+    lineSeen low16 wordOf floatSeen said seenOf table
 examples = (refl, (refl, (refl, (refl, (refl, (refl, (refl, (refl, (refl, (refl, (refl, (refl, (refl, (refl, (refl, (refl, tt))))))))))))))))

@@ -5,7 +5,6 @@ use mathlib.Core.Path.{_≡_}
 use mathlib.Core.List.{List, [], _∷_, _++_}
 use lib.ListN.{length, replicate}
 use Rattle.divide.specs.Ascii.{bytes}
-use Rattle.refusal.specs.Meaning.{meaningOf}
 use Rattle.settings.specs.Table.{phas, freq, harm, oflt, srat, rowOf, startSettings, withValue}
 use Rattle.settings.specs.declared.Settings.{Settings}
 use Rattle.event.specs.declared.Event.the-variants.{Latest}
@@ -15,8 +14,7 @@ use Rattle.refusal.specs.declared.Numbers.{Numbers}
 use Rattle.module.specs.Start.{startOf}
 use Rattle.lockin.specs.Calls.{lineCall, eventCall}
 use Rattle.script.specs.Check.{checkOf}
-use Rattle.verdict.specs.declared.Verdict.{Verdict}
-use Rattle.verdict.specs.declared.Verdict.the-variants.{Fine, No}
+use Rattle.verdict.specs.Said.{Said, ok, no, said}
 
 -- ---- the examples
 
@@ -35,8 +33,7 @@ pub data Example : Type 0 where
 -- and refusal
 pub data Seen : Type 0 where
   answer : Numbers → (kept : Settings) (reply : List ℕ) → Seen
-  ok : Seen
-  no : (line place refusal : ℕ) → Seen
+  verdict : Said → Seen
 
 -- ---- what is seen, by the definitions that the public calls' contracts cite
 
@@ -71,16 +68,11 @@ floatSeen word =
     let c = eventCall (Latest word 0) fresh zeros zeros in
     lineSeen (c .after) (c .one) (c .two) "SRAT 14;STRT;TRIG;TRCB?1,0,1"
 
--- a verdict in the paper's numbers
-unfoldable pub verdictSeen : Verdict → Seen
-verdictSeen Fine = ok
-verdictSeen (No n place r) = no n place (meaningOf r .number)
-
 -- lines of a script are "ended by LF, the last may lack it"
 unfoldable pub seenOf : Example → Seen
 seenOf (line text) = lineSeen fresh zeros zeros text
 seenOf (trcb m e) = floatSeen (wordOf m e)
-seenOf (script capacity first second) = verdictSeen (checkOf capacity (bytes first ++ (10 ∷ bytes second)))
+seenOf (script capacity first second) = verdict (said (checkOf capacity (bytes first ++ (10 ∷ bytes second))))
 
 -- ---- what the table says
 
@@ -136,8 +128,8 @@ table =
     ∷ row (trcb (plus 32767) 124) (sends 0x00 0xFE 0xFF 0x46)
     ∷ row (trcb (minus 32768) 236) (sends 0x00 0x00 0x00 0xFF)
     -- "script `*RST;SRAT 14;STRT;TRIG;TRIG` then `TRCB?1,0,2` passes at capacity 2, is `no 2 1 3` at 1."
-    ∷ row (script 2 "*RST;SRAT 14;STRT;TRIG;TRIG" "TRCB?1,0,2") ok
-    ∷ row (script 1 "*RST;SRAT 14;STRT;TRIG;TRIG" "TRCB?1,0,2") (no 2 1 3)
+    ∷ row (script 2 "*RST;SRAT 14;STRT;TRIG;TRIG" "TRCB?1,0,2") (verdict ok)
+    ∷ row (script 1 "*RST;SRAT 14;STRT;TRIG;TRIG" "TRCB?1,0,2") (verdict (no 2 1 3))
     ∷ []
 
 -- "Proved together as a single tabled statement": every example shows what its row says

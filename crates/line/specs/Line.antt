@@ -5,7 +5,9 @@ use mathlib.Core.Path.{_≡_}
 use mathlib.Core.List.{List, [], _∷_, _++_}
 use lib.Dec.{ltb}
 use lib.ListN.{length, take}
-use Rattle.clean.specs.Texts.{textsOf}
+use Rattle.divide.specs.Divide.{parts}
+use Rattle.clean.specs.Clean.{cleaned}
+use Rattle.clean.specs.Texts.{semicolon, textsOf}
 use Rattle.refusal.specs.Answer.{firstOf, drops}
 use Rattle.command.specs.Parsed.{parsedOf}
 use Rattle.state.specs.declared.State.{State}
@@ -59,6 +61,11 @@ startLine s one two = record { state = s; one = one; two = two; out = []; answer
 -- what a line of at most 256 bytes does, in a room of so many reply bytes
 unfoldable pub lineOf : ℕ → List ℕ → State → List ℕ → List ℕ → Line
 lineOf room line s one two = runAll room (textsOf line) (startLine s one two)
+
+-- the commands that the code runs of a line of any length: those among its first 256 bytes that count, which are all where the line has
+-- at most 256 bytes
+abbrev pub textsRun : List ℕ → List (List ℕ)
+textsRun line = parts semicolon (take 256 (cleaned line))
 
 -- the code's progress after one more command
 abbrev pub progressAfter : Progress → Performed → Progress

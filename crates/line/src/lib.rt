@@ -5,8 +5,7 @@ ghost use lib.ListN.{length};
 ghost use Rattle.divide.specs.Divide.{parts};
 ghost use Rattle.command.specs.Parsed.{parsedOf};
 ghost use Rattle.line.specs.Perform.{refusedWith, performed, commandOf, Does};
-ghost use Rattle.line.specs.Line.{progressAfter, stepOf, runAll, startLine, lineOf, lineAt, Runs};
-ghost use Rattle.clean.specs.Clean.{lineLimit};
+ghost use Rattle.line.specs.Line.{progressAfter, stepOf, runAll, startLine, textsRun, lineAt, Runs};
 ghost use Rattle.clean.specs.Texts.{semicolon};
 use command::Command;
 use command::Parsed;
@@ -157,7 +156,7 @@ fn run(s: State, text: &[u8], one: &mut [u32], two: &mut [u32], reply: &mut [u8]
     }
 }
 
-// A line of at most 256 bytes.
+// A line: its first 256 bytes that count, which are all of a line of at most 256 bytes.
 pub fn run_line(
     s: State,
     line: &[u8],
@@ -165,8 +164,9 @@ pub fn run_line(
     two: &mut [u32],
     reply: &mut [u8],
 ) -> Progress
-    requires { ⌜ length (now line) ≤ lineLimit ⌝ }
-    ensures { λ r. ⌜ Runs (lineOf (length (now (reply .entry))) (now (line .entry)) s (now (one .entry)) (now (two .entry))) r (now (one .exit)) (now (two .exit)) (now (reply .exit)) (now (reply .entry)) ⌝ }
+    ensures { λ r. ⌜ Runs
+        (runAll (length (now (reply .entry))) (textsRun (now (line .entry))) (startLine s (now (one .entry)) (now (two .entry))))
+        r (now (one .exit)) (now (two .exit)) (now (reply .exit)) (now (reply .entry)) ⌝ }
 {
     let c = clean::clean(line);
     let bytes = c.bytes;

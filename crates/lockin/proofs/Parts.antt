@@ -1,6 +1,6 @@
 -- The parts in which the code does a call, joined to the calls. Assumes nothing.
 use Prim.Native.Nat.{ℕ, _≤_, min}
-use mathlib.Core.Path.{_≡_, refl, sym, _∙_}
+use mathlib.Core.Path.{_≡_, refl, sym, ap, _∙_}
 use mathlib.Core.Bool.{Bool, true, false, cond, _&&_}
 use mathlib.Core.List.{List}
 use native.Mathlib.Omega.{arith}
@@ -11,7 +11,8 @@ use borrow.Author.Tests.{leb-true, leb-false}
 use Rattle.refusal.specs.declared.Outcome.{Outcome}
 use Rattle.refusal.specs.declared.Outcome.the-variants as outcome
 use Rattle.refusal.specs.declared.Answer.{Answer}
-use Rattle.refusal.specs.Answer.{toldOf}
+use Rattle.refusal.specs.Meaning.{numberOf}
+use Rattle.refusal.specs.Answer.{toldOf, numbersOf}
 use Rattle.state.specs.declared.State.{State}
 use Rattle.queue.specs.Queue.{lineLimit, waitingBytes}
 use Rattle.queue.specs.Parts.{queueOf, storedIn, afterRun}
@@ -39,7 +40,14 @@ withQueue e q =
 answers-with : {e : Effect} {r : StateResult} {one two new old : List ℕ} (q : Queue) → Has e r one two new old →
     Answers (withQueue e q) (record { after = record { queue = q; state = r .state }; told = r .told }) one two new old
 answers-with q h =
-    record { after = rw (h .state); told = h .told; first = h .first; second = h .second; reply = h .reply }
+    record {
+      after = rw (h .state);
+      told = h .told;
+      numbers = ap numbersOf (h .told);
+      first = h .first;
+      second = h .second;
+      reply = h .reply;
+    }
 
 -- the code's telling of an answer
 pub tell-has : (a : Answer) (s : State) (one two room : List ℕ) →
@@ -151,7 +159,14 @@ byte-answers room b mark m one two step {o = o} {bytes = bytes} long guard stepp
 
 happens-with : {o : Occurred} {h : Happened} {one two : List ℕ} (q : Queue) → Occurs o h one two →
     Happens (occurred o q) (record { after = record { queue = q; state = h .state }; outcome = h .outcome }) one two
-happens-with q h = record { after = rw (h .state); outcome = h .outcome; first = h .first; second = h .second }
+happens-with q h =
+    record {
+      after = rw (h .state);
+      outcome = h .outcome;
+      number = ap numberOf (h .outcome);
+      first = h .first;
+      second = h .second;
+    }
 
 module _ (e : Event) (m : Module) (one two : List ℕ) where
   guarded-event : (o : Outcome) → guardedEvent o (occurred (eventOf e (m .state) one two) (m .queue)) m one two

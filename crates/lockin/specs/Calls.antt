@@ -22,7 +22,8 @@ use Rattle.event.specs.declared.Event.{Event}
 use Rattle.module.specs.Module.{guardOf}
 use Rattle.module.specs.declared.Module.{Module}
 use Rattle.refusal.specs.declared.Told.{Told}
-use Rattle.refusal.specs.Answer.{toldOf}
+use Rattle.refusal.specs.Meaning.{numberOf}
+use Rattle.refusal.specs.Answer.{toldOf, numbersOf}
 use Rattle.module.specs.declared.Called.{Called}
 use Rattle.lockin.specs.declared.Taken.{Taken}
 
@@ -89,6 +90,8 @@ byteCall room b mark m one two = guarded (guardOf m (length one) (length two)) (
 pub record Answers (c : Call) (r : Called) (one two new old : List ℕ) : Type 0 where
   pub after : r .after ≡ c .after
   pub told : r .told ≡ c .told
+  -- the same in document 01's numbers: refusal, place and length
+  pub numbers : numbersOf (r .told) ≡ numbersOf (c .told)
   pub first : one ≡ c .one
   pub second : two ≡ c .two
   pub reply : new ≡ over (c .out) old
@@ -110,8 +113,11 @@ guardedEvent (outcome.Refused r) call m one two = record { after = m; one = one;
 unfoldable pub eventCall : Event → Module → List ℕ → List ℕ → EventCall
 eventCall e m one two = guardedEvent (guardOf m (length one) (length two)) (occurred (eventOf e (m .state) one two) (m .queue)) m one two
 
+-- the code's answer r and the traces after it are those of the event's call
 pub record Happens (c : EventCall) (r : Taken) (one two : List ℕ) : Type 0 where
   pub after : r .after ≡ c .after
   pub outcome : r .outcome ≡ c .outcome
+  -- the same as document 01's number
+  pub number : numberOf (r .outcome) ≡ numberOf (c .outcome)
   pub first : one ≡ c .one
   pub second : two ≡ c .two

@@ -3,6 +3,7 @@ ghost use mathlib.Core.Path.{_≡_};
 ghost use Prim.Native.Nat.{_≤_};
 ghost use lib.ListN.{length};
 ghost use Rattle.clean.specs.Clean.{lineLimit};
+ghost use Rattle.refusal.specs.Meaning.{numberOf};
 ghost use Rattle.refusal.specs.Answer.{toldOf};
 ghost use Rattle.event.specs.Event.{eventOf, Occurs};
 ghost use Rattle.module.specs.Start.{startOf};
@@ -25,6 +26,7 @@ pub use refusal::Numbers;
 use refusal::Outcome;
 use refusal::Refusal;
 pub use refusal::Told;
+pub use refusal::number_of;
 pub use refusal::numbers_of;
 use state::State;
 
@@ -37,6 +39,8 @@ pub struct Taken {
 // A fresh module over two traces, which are not written. Port 0 is RS232, 1 is GPIB.
 pub fn start(serial: u32, port: u32, one: &[u32], two: &[u32]) -> Started
     ensures { λ r. ⌜ r ≡ startOf serial port (length (now (one .entry))) (length (now (two .entry))) ⌝ }
+    ensures { λ r. ⌜ numberOf (r .outcome)
+        ≡ numberOf (startOf serial port (length (now (one .entry))) (length (now (two .entry))) .outcome) ⌝ }
 {
     module::start(serial, port, one.len(), two.len())
 }
@@ -291,6 +295,7 @@ pub fn take_event(m: Module, e: Event, one: &mut [u32], two: &mut [u32]) -> Take
 // The status byte between lines, as a serial poll reads it.
 pub fn poll(m: Module) -> Polled
     ensures { λ r. ⌜ r ≡ pollOf m ⌝ }
+    ensures { λ r. ⌜ numberOf (r .outcome) ≡ numberOf (pollOf m .outcome) ⌝ }
 {
     module::poll(m)
 }

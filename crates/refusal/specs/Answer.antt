@@ -38,10 +38,11 @@ drops (outcome.Refused r) = isNoRoom r
 abbrev pub toldOf : Answer → ℕ → Told
 toldOf a n = record { answer = a; length = n }
 
--- the paper's numbers for an answer: refusal, place and length; "An answer 0 has place 0"
+-- document 01's numbers of an answer: refusal, place and length; 0 is no refusal, and has place 0
 unfoldable pub numbered : Answer → ℕ → Numbers
 numbered Passed n = record { refusal = 0; place = 0; length = n }
 numbered (Refused r place) n = record { refusal = meaningOf r .number; place = place; length = n }
 
+-- document 01's numbers of what is told of a line or a byte. The promises of the calls that take them use it
 unfoldable pub numbersOf : Told → Numbers
 numbersOf t = numbered (t .answer) (t .length)

@@ -6,6 +6,7 @@ ghost use Rattle.divide.specs.Divide.{parts};
 ghost use Rattle.clean.specs.Clean.{lineLimit};
 ghost use Rattle.clean.specs.Texts.{semicolon, textsOf};
 ghost use Rattle.two_courses.specs.Courses.{gapOf, startBoth};
+ghost use Rattle.verdict.specs.Said.{said};
 ghost use Rattle.script.specs.Check.{linesVerdict, linesOf, capacityFits, checkOf};
 ghost use Rattle.script.specs.Given.{Sweeps};
 use refusal::Answer;
@@ -103,6 +104,7 @@ pub fn capacity_fits(capacity: u32) -> bool
 // Whether any course of a script can be refused, at a capacity.
 pub fn check(capacity: u32, script: &[u8]) -> Verdict
     ensures { λ r. ⌜ r ≡ checkOf capacity (now (script .entry)) ⌝ }
+    ensures { λ r. ⌜ said r ≡ said (checkOf capacity (now (script .entry))) ⌝ }
 {
     if capacity_fits(capacity) {
         return check_lines(capacity, script);

@@ -2,6 +2,5 @@
 fn main() {
     let mut script = script_input::buffer();
     let input = script_input::read_all(&mut script);
-    let bytes = terminal::first_of(&script, input.len);
-    verdict_text::tell(script_input::verdict_of(input.capacity, bytes));
+    verdict_text::write(script_input::output_of(input, &script));
 }

@@ -12,6 +12,7 @@ use Rattle.input_bytes.specs.Taken.{lineFeed}
 use Rattle.script.specs.Check.{capacityFits, checkOf}
 use Rattle.verdict.specs.declared.Verdict.{Verdict}
 use Rattle.verdict.specs.declared.Verdict.the-variants.{No}
+use Rattle.verdict_text.specs.Text.{verdictText}
 
 -- "the capacity, digits only, on line one (anything else counts as 0)"
 unfoldable pub capacityOf : List ℕ → ℕ
@@ -29,3 +30,7 @@ limitedCheck capacity script =
 -- "The check program reads the capacity .. on line one .., then .. script bytes"
 unfoldable pub saidOf : List ℕ → Verdict
 saidOf input = limitedCheck (capacityOf (before lineFeed input)) (after lineFeed input)
+
+-- the check program, from the bytes of its whole input to the bytes of its whole output
+abbrev pub checkOutput : List ℕ → List ℕ
+checkOutput input = verdictText (saidOf input)

@@ -3,6 +3,8 @@ ghost use mathlib.Core.Path.{_≡_};
 ghost use Prim.Native.Nat.{_+_};
 ghost use lib.ListN.{length};
 ghost use Rattle.script_input.specs.Input.{scriptLimit};
+ghost use Rattle.input_bytes.specs.Taken.{held, startInput};
+ghost use Rattle.script_input.specs.Whole.{Reads};
 use crate::LIMIT;
 use input_bytes::Input;
 use input_bytes::take;
@@ -25,7 +27,9 @@ struct Turn {
 }
 
 // Reads once and takes what came.
-fn read_some(input: Input, script: &mut [u8]) -> Turn {
+fn read_some(input: Input, script: &mut [u8]) -> Turn
+    ensures { λ r. ⌜ Reads (held input (now (script .entry))) (held (r .after) (now (script .exit))) ⌝ }
+{
     let mut chunk = io::large_buffer();
     let got = libc::read(STDIN_FILENO, &mut chunk);
     if got <= 0 {
@@ -43,7 +47,9 @@ fn read_some(input: Input, script: &mut [u8]) -> Turn {
 
 // Reads all of standard input and puts the script's bytes at the start of a buffer, as far as there is room. A proved loop has to end, so this one
 // counts its turns down, from a number that no run uses up.
-pub fn read_all(script: &mut [u8]) -> Input {
+pub fn read_all(script: &mut [u8]) -> Input
+    ensures { λ r. ⌜ Reads (held startInput (now (script .entry))) (held r (now (script .exit))) ⌝ }
+{
     let mut input = Input::start();
     let mut turns = u64::MAX;
     while turns > 0 {

@@ -1,8 +1,12 @@
 // Bytes for standard output, behind those that wait in a buffer. Each function that puts some is given how many wait and gives how many wait afterwards; a full buffer is written out.
+ghost use mathlib.Core.Path.{_≡_};
+ghost use lib.ListN.{take, drop};
 use libc::STDOUT_FILENO;
 
 // The first n bytes, all of them where there are fewer.
-pub fn first_of(bytes: &[u8], n: usize) -> &[u8] {
+pub fn first_of(bytes: &[u8], n: usize) -> &[u8]
+    ensures { λ r. ⌜ now r ≡ take n (now (bytes .entry)) ⌝ }
+{
     if bytes.len() < n {
         return bytes;
     }
@@ -10,11 +14,13 @@ pub fn first_of(bytes: &[u8], n: usize) -> &[u8] {
 }
 
 // The bytes behind the first n, none where there are fewer.
-pub fn rest_of(bytes: &[u8], n: usize) -> &[u8] {
-    if bytes.len() < n {
-        return &bytes[0..0];
+pub fn rest_of(bytes: &[u8], n: usize) -> &[u8]
+    ensures { λ r. ⌜ now r ≡ drop n (now (bytes .entry)) ⌝ }
+{
+    if n < bytes.len() {
+        return &bytes[n..];
     }
-    &bytes[n..]
+    &bytes[0..0]
 }
 
 // Writes the bytes that wait.

@@ -5,7 +5,7 @@ use lib.ListN.{length, drop, length-drop}
 use native.Mathlib.Omega.{arith}
 use borrow.Author.Needs.{needs}
 use Rattle.divide.specs.Divide.{span}
-use Rattle.divide.proofs.Span.{rest-from}
+use Rattle.divide.proofs.Span.{span-le, rest-from}
 use Rattle.divide.proofs.end_of.Statement.{statement}
 use Rattle.divide.proofs.end_of.Tie as tie
 
@@ -25,7 +25,14 @@ add-result : tie.Need-add-result
 add-result c = search needs
 
 returns : tie.Need-returns
-returns c = let k = c .before .before .before .args in
+returns c =
+    let k = c .before .before .args in
+    let rest = drop (k .a) (k .s .now) in
+    omega (arith, span-le (k .separator) rest, length-drop (k .a) (k .s .now))
+
+returns-2 : tie.Need-returns-2
+returns-2 c =
+    let k = c .before .before .before .before .args in
     let e : c .span-of .result ≡ span (k .separator) (drop (k .a) (k .s .now)) = rw (rest-from (k .s .now) (k .a)) at (c .span-of .ensures .0) in
     let l : c .span-of .result ≤ length (drop (k .a) (k .s .now)) = rw (rest-from (k .s .now) (k .a)) at (c .span-of .ensures .1) in
     let n = length-drop (k .a) (k .s .now) in
@@ -34,4 +41,4 @@ returns c = let k = c .before .before .before .args in
 pub end-of-spec : {M : Type 1} → statement M
 end-of-spec =
     tie.close
-    (tie.spec sub-span-of part-span-of-start part-span-of-end span-of-requires add-result returns)
+    (tie.spec returns sub-span-of part-span-of-start part-span-of-end span-of-requires add-result returns-2)

@@ -1,11 +1,9 @@
 -- `line::run_line` meets its contract: the line is cleaned, then run. Assumes nothing.
 use native.Mathlib.Nat.{sub-zero}
-use mathlib.Core.Path.{_≡_, sym}
+use mathlib.Core.Path.{_≡_}
 use native.Mathlib.Omega.{arith}
 use lib.ListN.{length}
 use borrow.Author.Needs.{needs}
-use Rattle.line.specs.Line.{lineOf}
-use Rattle.clean.proofs.Bound.{all-cleaned}
 use Rattle.line.proofs.run_line.Statement.{statement}
 use Rattle.line.proofs.run_line.Tie as tie
 
@@ -34,8 +32,10 @@ same-length-3 : tie.Need-same-length-3
 same-length-3 c = search needs
 
 returns : tie.Need-returns
-unfolding lineOf
-returns c = rw (sym (all-cleaned (c .before .before .before .before .before .before .before .before .before .before .before .before .before .before .before .before .before .before .args .line .now) (c .before .before .before .before .before .before .before .before .before .before .before .before .before .before .before .before .before .before .pre)), sym (c .before .before .before .before .before .before .before .before .before .before .before .before .before .clean .ensures .0)) (rw (sub-zero (c .before .before .before .before .before .before .before .before .before .before .before .before .before .clean .result .len)) at (c .before .before .before .before .before .before .run .ensures))
+returns c =
+    let cleaned = c .before .before .before .before .before .before .before .before .before .before .before .before .before .clean in
+    let ran = c .before .before .before .before .before .before .run .ensures in
+    rw (← cleaned .ensures .0) (rw (sub-zero (cleaned .result .len)) at ran)
 
 pub run-line-spec : {M : Type 1} → statement M
 run-line-spec =

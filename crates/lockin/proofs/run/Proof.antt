@@ -1,6 +1,8 @@
 -- `lockin::run` meets its contract. Assumes nothing.
 use mathlib.Core.Path.{refl}
 use borrow.Author.Needs.{needs}
+use Rattle.clean.proofs.Bound.{all-cleaned}
+use Rattle.line.specs.Line.{lineOf}
 use Rattle.lockin.proofs.run.Statement.{statement}
 use Rattle.lockin.proofs.run.Tie as tie
 
@@ -20,8 +22,11 @@ same-length-3 : tie.Need-same-length-3
 same-length-3 c = search needs
 
 returns : tie.Need-returns
+unfolding lineOf
 returns c =
-    let ran = c .before .before .before .before .before .before .before .before .run-line .ensures in
+    let done = c .before .before .before .before .before .before .before .before in
+    let start = done .before .before .before .before .before .before .before .before in
+    let ran = rw (all-cleaned (start .args .text .now) (start .pre)) at (done .run-line .ensures) in
     rw (c .before .length-told .ensures, ran .told)
     (record { state = refl; told = refl; first = ran .first; second = ran .second; reply = ran .reply })
 

@@ -59,7 +59,7 @@ loop-less : tie.Need-loop-less Inv-loop μ-loop
 loop-less c = omega arith
 
 loop-again : tie.Need-loop-again Inv-loop μ-loop
-loop-again c = onward (c .before .before .before .before .before .before .before .before .loop .inv) (c .before .before .before .before .before .before .before .loop-test .taken) (c .before .before .before .before .before .before .end-of .result) (c .before .before .before .before .before .before .end-of .ensures .0) (c .before .before .before .before .before .if1 .left) (c .before .before .before .sweep-line .result) (c .before .before .before .sweep-line .ensures) (c .before .enum-told .given .1) (c .before .before .before .before .before .before .end-of .ensures .1 .1)
+loop-again c = onward (c .before .before .before .before .before .before .before .before .loop .inv) (c .before .before .before .before .before .before .before .loop-test .taken) (c .before .before .before .before .before .before .end-of .result) (c .before .before .before .before .before .before .end-of .ensures .0) (c .before .before .before .before .before .if1 .left) (c .before .before .before .sweep-line .result) (c .before .before .before .sweep-line .ensures) (c .before .enum-told .given .1) (omega arith)
 
 returns-3 : tie.Need-returns-3 Inv-loop μ-loop
 returns-3 c = over-yes (c .before .before .loop .inv) (c .before .loop-test .left) (c .if2 .taken)

@@ -1,0 +1,15 @@
+-- The script check's answer in document 01's numbers: document 01, "The script check".
+use Prim.Native.Nat.{ℕ}
+use Rattle.refusal.specs.Meaning.{meaningOf}
+use Rattle.verdict.specs.declared.Verdict.{Verdict}
+use Rattle.verdict.specs.declared.Verdict.the-variants.{Fine, No}
+
+-- nothing is refused; or the line, the place and the number of the refusal
+pub data Said : Type 0 where
+  ok : Said
+  no : (line place refusal : ℕ) → Said
+
+-- document 01's values of each verdict; the promise of the script check uses it
+unfoldable pub said : Verdict → Said
+said Fine = ok
+said (No line place refusal) = no line place (meaningOf refusal .number)

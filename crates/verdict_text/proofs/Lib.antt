@@ -1,0 +1,2 @@
+-- Laws on a number's digits.
+pub mod Decimal
