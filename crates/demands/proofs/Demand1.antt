@@ -130,7 +130,7 @@ line-refused : (room : ℕ) (bytes : List ℕ) (m : Module) (one two : List ℕ)
 unfolding lineCall wholeLine
 line-refused room bytes m one two refusal =
     let q = m .queue in
-    guarded-refuses m one two refusal q (wholeLine room bytes m one two) (by (leb (length bytes) 256))
+    guarded-refuses m one two refusal q (wholeLine room bytes m one two) (by (leb (length bytes) queue.lineLimit))
   where
     by : (t : Bool) →
         let whole = ran (lineOf room bytes (m .state) one two) (m .queue) in
@@ -214,7 +214,7 @@ unfolding lineCall wholeLine
 line-placed room bytes m one two r p =
     let q = m .queue in
     guarded-placed m one two (RunsLine room bytes m q one two) (wholeLine room bytes m one two) r p
-    (by (leb (length bytes) 256))
+    (by (leb (length bytes) queue.lineLimit))
   where
     by : (t : Bool) →
         let whole = ran (lineOf room bytes (m .state) one two) (m .queue) in
