@@ -38,7 +38,7 @@ drops (outcome.Refused r) = isNoRoom r
 abbrev pub toldOf : Answer → ℕ → Told
 toldOf a n = record { answer = a; length = n }
 
--- the paper's numbers for an answer: refusal, place and length; "An answer 0 has place 0"
+-- document 01's numbers for an answer: refusal, place and length. Where nothing was refused, refusal and place are 0
 unfoldable pub numbered : Answer → ℕ → Numbers
 numbered Passed n = record { refusal = 0; place = 0; length = n }
 numbered (Refused r place) n = record { refusal = meaningOf r .number; place = place; length = n }
