@@ -12,7 +12,8 @@ use Rattle.divide.proofs.Span.{rest-from}
 use Rattle.number.specs.Number.{begins}
 use Rattle.name.specs.Names.{meaningOf}
 use Rattle.name.specs.Word.{word, foundOf}
-use Rattle.name.proofs.Words.{isFour, found-word}
+use Rattle.name.specs.Words.{isFour}
+use Rattle.name.proofs.Words.{found-word}
 use Rattle.name.specs.declared.Meaning.{Meaning}
 use Rattle.command.specs.Arguments.{arguments}
 use Rattle.command.specs.Parsed.{parsedOf, malformed, setWith, queryWith}

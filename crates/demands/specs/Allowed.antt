@@ -40,14 +40,14 @@ pub record StatesStay : Type 0 where
       let e = eventOf event s one two in
       Stays s (e .state) one two (e .one) (e .two)
 
--- "a state outside the ranges, steps and limits above", "traces .. not the state's capacity": from a module and its traces to others, an allowed module stays
--- allowed, and where neither 11 nor 9 refuses a call, neither refuses the next one; the queue's bytes stay as many
+-- from a module and its traces to others: an allowed module stays allowed, and where neither 11 (the state) nor 9 (the
+-- traces) refuses a call, neither refuses the next one; the queue's bytes stay as many
 pub record Goes (before after : Module) (one two first second : List ℕ) : Type 0 where
   pub allowed : allowedModule before ≡ true → allowedModule after ≡ true
   pub next : guardOf before (length one) (length two) ≡ Done → guardOf after (length first) (length second) ≡ Done
   pub queued : length (after .queue .bytes) ≡ length (before .queue .bytes)
 
--- "a state that we made": by a start, refused or not, and by lines, bytes and events, each with any traces
+-- a module that the calls made: by a start, refused or not, and by lines, bytes and events, each with any traces
 pub data Made : Module → Type 0 where
   byStart : (serial port first second : ℕ) → Made (startOf serial port first second .after)
   byLine : (room : ℕ) (bytes : List ℕ) (m : Module) (one two : List ℕ) → Made m → Made (lineCall room bytes m one two .after)

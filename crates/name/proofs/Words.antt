@@ -6,17 +6,9 @@ use mathlib.Core.List.{List, [], _∷_}
 use native.Mathlib.Omega.{arith}
 use lib.Dec.{T, eqb, ltb, ltb→lt}
 use borrow.Author.Tests.{eq-eqb, ne-eqb, eqb-true, eqb-false}
-use Rattle.name.specs.Names.{Named, commands, sameBytes, meaningIn, meaningOf}
-use Rattle.name.specs.Word.{word, foundIn, foundOf}
-
--- four bytes
-abbrev pub isFour : List ℕ → Bool
-isFour (a ∷ b ∷ c ∷ d ∷ []) = ltb a 256 && (ltb b 256 && (ltb c 256 && ltb d 256))
-isFour [] = false
-isFour (a ∷ []) = false
-isFour (a ∷ b ∷ []) = false
-isFour (a ∷ b ∷ c ∷ []) = false
-isFour (a ∷ b ∷ c ∷ d ∷ e ∷ s) = false
+use Rattle.name.specs.Names.{Named, commands, sameBytes, meaningIn}
+use Rattle.name.specs.Word.{word, foundIn}
+use Rattle.name.specs.Words.{isFour, FoundWord}
 
 abbrev allFour : List Named → Bool
 allFour [] = true
@@ -57,5 +49,5 @@ found-is (n ∷ ns) t s f =
     rw (same-four (n .name) s (b .0) f, found-is ns (b .1) s f)
 
 -- the search by one number is the search by four bytes
-pub found-word : (s : List ℕ) → T (isFour s) → foundOf (word s) ≡ meaningOf s
+pub found-word : FoundWord
 found-word s f = found-is commands tt s f

@@ -1,3 +1,4 @@
 -- The command names and what each stands for.
 pub mod Names
 pub mod Word
+pub mod Words

@@ -2,7 +2,6 @@
 use Prim.Native.Nat.{ℕ, zero, suc, _+_, _-_, _*_, _/_, _%_, _<_, _≤_}
 use mathlib.Core.Path.{_≡_, refl, sym, _∙_}
 use mathlib.Core.Bool.{Bool, true, false, true≢false, cond, not, _&&_, _||_, and-false}
-use mathlib.Core.List.{List}
 use native.Mathlib.Omega.{arith}
 use native.Mathlib.Nat.{one-le-pow, mod-lt, add-zero, div-add-mod', mul-zero, mul-comm, mul-assoc, add-mul, one-mul, mul-le-mul-right, lt-of-mul-lt-mul-right, div-div-eq-div-mul, min-eq-left, min-eq-right}
 use lib.Dec.{leb, ltb, eqb}
@@ -10,14 +9,11 @@ use lib.Arith.{mod-mul}
 use borrow.Author.Tests.{lt-leb, leb-true, leb-false, le-ltb, ltb-true, ltb-false, eqb-true, eqb-false}
 use Rattle.number.specs.Value.{Exact, exactOf, inRange, rounded, isWhole, argumentOf}
 use Rattle.number.specs.Quantity.{cap, quantityOf, fitsRange, roundedTo, placedIn, valueIn, takenOf}
+use Rattle.number.specs.Exact.{Small, TakenExact, UnderSome}
 use Rattle.number.proofs.Rounding.{up-le, down-le}
 use Rattle.number.specs.declared.Range.{Range}
 use Rattle.number.specs.declared.Quantity.{Quantity}
 use Rattle.number.specs.declared.Argument.the-variants.{Value, Refused}
-
--- a range whose values fit 32 bits, also once they are rounded
-abbrev pub Small : Range → Type 0
-Small r = r .bias + r .high + r .step < 4294967296
 
 pub and-first : (a b : Bool) → (a && b) ≡ true → a ≡ true
 and-first true b h = refl
@@ -171,10 +167,9 @@ module _ (v : Exact) (pos : 0 < v .under) where
   unfolding valueIn
   value-small r small e = rw (le-ltb 4294967295 (placedIn r (kept v)) (fits-small r small e))
 
-  -- taking what is kept of a number is taking the number
-  pub taken-exact : (r : Range) → Small r → takenOf r (quantityOf v) ≡ argumentOf r v
+  takes : (r : Range) → Small r → takenOf r (quantityOf v) ≡ argumentOf r v
   unfolding takenOf argumentOf
-  taken-exact r small = by (ltb (v .over / v .under) cap) refl where
+  takes r small = by (ltb (v .over / v .under) cap) refl where
     either : (f w : Bool) → (f ≡ true → valueIn r (kept v) ≡ Value (placedIn r (kept v))) →
         cond (f && w) (valueIn r (kept v)) Refused ≡ cond (f && w) (Value (placedIn r (kept v))) Refused
     either true true g = g refl
@@ -189,7 +184,11 @@ module _ (v : Exact) (pos : 0 < v .under) where
         let l : cap ≤ v .over / v .under = ltb-false (v .over / v .under) cap p in
         rw (min-eq-left l, in-range r, past r small l)
 
+-- taking what is kept of a number is taking the number
+pub taken-exact : TakenExact
+taken-exact v pos = takes v pos
+
 -- a text's exact value divides by a power of ten, which is not 0
-pub under-pos : (decimals : ℕ) (s : List ℕ) → 0 < exactOf decimals s .under
+pub under-pos : UnderSome
 unfolding exactOf
 under-pos decimals s = one-le-pow _ 10 (omega arith)

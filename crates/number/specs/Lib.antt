@@ -2,3 +2,4 @@
 pub mod Number
 pub mod Value
 pub mod Quantity
+pub mod Exact

@@ -27,11 +27,12 @@ sentOf bytes room = record { fits = fitsIn bytes room; written = cond (fitsIn by
 unfoldable pub sentBytes : List ℕ → ℕ → List ℕ
 sentBytes bytes room = cond (fitsIn bytes room) bytes []
 
--- "Point n since the last emptying, from 0, lies in slot n mod capacity.": 0 where there is no slot
+-- the slot of a place, where places are counted on and on round the trace; 0 where there is no slot
 abbrev pub slotOf : ℕ → ℕ → ℕ
 slotOf slots place = cond (eqb slots 0) 0 (place % slots)
 
--- "Point n since the last emptying, from 0, lies in slot n mod capacity.": its word; 0 of an empty trace
+-- the word at a place of a trace, where places are counted on and on round it: the one behind the last slot is slot 0
+-- again; 0 of an empty trace
 unfoldable pub wordAt : List ℕ → ℕ → ℕ
 wordAt trace place = getD trace (place % length trace) 0
 

@@ -2,17 +2,18 @@
 use Prim.Native.Nat.{ℕ, suc, _+_, _*_, _/_, _<_, _≤_, min}
 use mathlib.Core.Path.{_≡_, ap}
 use mathlib.Core.Bool.{Bool, true, false, cond}
-use mathlib.Core.List.{List}
 use native.Mathlib.Omega.{arith}
 use native.Mathlib.Nat.{div-lt-iff-lt-mul}
 use lib.Dec.{ltb, eqb}
 use Rattle.number.specs.Value.{Exact, exactOf, argumentOf}
 use Rattle.number.specs.Quantity.{cap, quantityOf, takenOf}
-use Rattle.number.proofs.Exact.{Small, same-test, taken-exact, under-pos}
+use Rattle.number.specs.Exact.{Small}
+use Rattle.number.proofs.Exact.{same-test, taken-exact, under-pos}
 use Rattle.settings.specs.Table.{freq, rowOf}
 use Rattle.settings.specs.Limits.{hertz}
 use Rattle.settings.specs.Frequency.{stepBy}
 use Rattle.settings.specs.Setting.{stepWith, rangeWith, exactStep, turnedAt, settingOf, stepOf, rangeOf, valueTaken}
+use Rattle.settings.specs.Exact.{ValueExact}
 use Rattle.settings.proofs.Rows.{step-by, row-size}
 
 module _ (v : Exact) (pos : 0 < v .under) where
@@ -47,6 +48,6 @@ taken entry v pos =
     rw (step-exact v pos) (taken-exact v pos (rangeWith entry (stepWith entry (exactStep v))) (small entry (exactStep v) (step-by _ .most)))
 
 -- what the code takes of a number's text is what the text sets
-pub value-exact : (entry : ℕ) (s : List ℕ) → valueTaken entry (quantityOf (exactOf (rowOf entry .decimals) s)) ≡ settingOf entry s
+pub value-exact : ValueExact
 unfolding valueTaken settingOf
 value-exact entry s = ap (turnedAt entry) (taken entry (exactOf (rowOf entry .decimals) s) (under-pos (rowOf entry .decimals) s))

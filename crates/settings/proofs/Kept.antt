@@ -2,7 +2,6 @@
 use Prim.Native.Nat.{ℕ, _+_, _*_, _%_, _<_, _≤_}
 use mathlib.Core.Path.{_≡_, refl, sym}
 use mathlib.Core.Bool.{Bool, true, false, true≢false, cond, _&&_, _||_}
-use mathlib.Core.List.{List}
 use native.Mathlib.Omega.{arith}
 use native.Mathlib.Nat.{zero-mod, mod-one}
 use lib.Dec.{leb, ltb, eqb, eqb→eq, leb→le}
@@ -19,7 +18,7 @@ use Rattle.settings.specs.Table.{entries, table, rowOf, phas, freq, turn
 use Rattle.settings.specs.Frequency.{stepBy, frequencyStep}
 use Rattle.settings.specs.Setting.{stepWith, rangeWith, exactStep, turnedAt, settingOf, stepOf}
 use Rattle.settings.specs.Allowed.{keeps, every, keepsAll}
-use Rattle.settings.specs.declared.Settings.{Settings}
+use Rattle.settings.specs.Kept.{SettingKeeps, WithKeeps}
 use Rattle.settings.proofs.Rows.{row-rule, row-step}
 use Rattle.settings.proofs.Every.{every-at, every-of}
 use Rattle.settings.proofs.Phase.{turned-is}
@@ -167,12 +166,12 @@ module _ (entry : ℕ) (inside : entry < entries) (v : Exact) (pos : 0 < v .unde
     by (Value y) p q = which (eqb entry phas) (eqb entry freq) refl refl y p (cc)
 
 -- what a text sets may be kept
-pub setting-keeps : (entry : ℕ) → entry < entries → (s : List ℕ) (x : ℕ) → settingOf entry s ≡ Value x → keeps entry x ≡ true
+pub setting-keeps : SettingKeeps
 unfolding settingOf
 setting-keeps entry h s = value-keeps entry h (exactOf (rowOf entry .decimals) s) (under-pos (rowOf entry .decimals) s)
 
 -- and settings stay such that every value may be kept
-pub with-keeps : (s : Settings) (entry x : ℕ) → keepsAll s ≡ true → keeps entry x ≡ true → keepsAll (withValue s entry x) ≡ true
+pub with-keeps : WithKeeps
 unfolding keepsAll
 with-keeps s entry x h k =
     every-of (λ e. keeps e (valueOf (withValue s entry x) e)) entries (λ i l. at i (every-at (λ e. keeps e (valueOf s e)) entries h i l)) where

@@ -4,3 +4,5 @@ pub mod Table
 pub mod Frequency
 pub mod Setting
 pub mod Allowed
+pub mod Exact
+pub mod Kept

@@ -1,5 +1,5 @@
 -- What the definitions of a byte's bits mean, bit by bit. Assumes nothing.
-use Prim.Native.Nat.{ℕ, zero, suc, _+_, _-_, _*_, _/_, _%_, _^_, _≤_, _<_, min, max}
+use Prim.Native.Nat.{ℕ, zero, suc, _+_, _*_, _/_, _%_, _^_, _≤_, _<_, min, max}
 use native.Mathlib.Nat.{le-trans, mod-le, mul-le-mul-right, mul-assoc, one-mul, div-eq-of-lt, div-mul-le-self, div-self, div-div-eq-div-mul, lt-of-lt-of-le, pow-succ', pow-suc}
 use native.Mathlib.Omega.{arith}
 use mathlib.Core.Bool.{Bool, true, false, cond}
@@ -8,8 +8,8 @@ use lib.Arith.{bin-ind, digits-mod}
 use lib.Bits.{bitAnd, bitOr, and-step, or-step, and-shr, or-shr}
 use lib.Dec.{eqb, ltb}
 use lib.Pow.{pow-mono, pow-pos, shl-exact}
-use borrow.Author.Tests.{lt-ltb, ne-eqb}
-use Rattle.status.specs.Bits.{bitOf, withoutBit, withBit}
+use borrow.Author.Tests.{lt-ltb, eq-eqb, ne-eqb, eqb-true, not-false}
+use Rattle.status.specs.Bits.{bitOf, withoutBit, withBit, meets, only, BitByBit}
 
 -- ---- one bit
 
@@ -49,6 +49,13 @@ none-set =
     bin-ind (λ (n : ℕ). ((i : ℕ) → bitOf n i ≡ 0) → n ≡ 0) (λ h. refl)
     (λ n ih h. omega (arith, ih (λ i. sym (bit-suc n i) ∙ h (suc i)), bit-zero n, h 0))
 
+-- two numbers of the same bits are one
+same-bits : (x y : ℕ) → ((i : ℕ) → bitOf x i ≡ bitOf y i) → x ≡ y
+same-bits =
+    bin-ind (λ (n : ℕ). (y : ℕ) → ((i : ℕ) → bitOf n i ≡ bitOf y i) → n ≡ y)
+    (λ y h. sym (none-set y (λ i. sym (h i) ∙ bit-none i)))
+    (λ n ih y h. omega (arith, ih (y / 2) (λ i. sym (bit-suc n i) ∙ h (suc i) ∙ bit-suc y i), bit-zero n, bit-zero y, h 0))
+
 -- ---- bit by bit
 
 -- union: set where one of the two is
@@ -67,6 +74,23 @@ apart-bits x m h i = sym (bit-and x m i) ∙ ap (λ (n : ℕ). bitOf n i) h ∙ 
 
 pub bits-apart : (x m : ℕ) → ((i : ℕ) → min (bitOf x i) (bitOf m i) ≡ 0) → bitAnd x m ≡ 0
 bits-apart x m h = none-set (bitAnd x m) (λ i. bit-and x m i ∙ h i)
+
+-- the tests of two numbers and of a mask
+pub met-none : (x m : ℕ) → meets x m ≡ false → bitAnd x m ≡ 0
+unfolding meets
+met-none x m h = eqb-true (bitAnd x m) 0 (not-false (eqb (bitAnd x m) 0) h)
+
+pub meets-none : (x m : ℕ) → bitAnd x m ≡ 0 → meets x m ≡ false
+unfolding meets
+meets-none x m h = rw (eq-eqb (bitAnd x m) 0 h)
+
+pub only-le : (mask x : ℕ) → only mask x ≡ true → (i : ℕ) → bitOf x i ≤ bitOf mask i
+unfolding only
+only-le mask x h i = omega (arith, bit-and x mask i, ap (λ (n : ℕ). bitOf n i) (eqb-true (bitAnd x mask) x h))
+
+le-only : (mask x : ℕ) → ((i : ℕ) → bitOf x i ≤ bitOf mask i) → only mask x ≡ true
+unfolding only
+le-only mask x h = eq-eqb (bitAnd x mask) x (same-bits (bitAnd x mask) x (λ i. omega (arith, bit-and x mask i, h i)))
 
 -- the weight of bit i has that bit and no other
 pub power-here : (i : ℕ) → bitOf (2 ^ i) i ≡ 1
@@ -133,3 +157,26 @@ with-other x i value j d = by (ltb i 8) (eqb value 0)
     by true true = without-other x i j d
     by true false = bit-or x (2 ^ i) j ∙ omega (arith, power-other i j d)
     by false none = refl
+
+-- ---- the promise
+
+pub bit-by-bit : BitByBit
+bit-by-bit =
+    record {
+      below = bit-lt;
+      past = past;
+      same = same-bits;
+      union = bit-or;
+      common = bit-and;
+      weight = power-here;
+      weight-other = power-other;
+      cleared = without-here;
+      cleared-other = without-other;
+      given-none = with-zero;
+      given-some = with-one;
+      given-other = with-other;
+      apart = λ x y h. apart-bits x y (met-none x y h);
+      not-met = λ x y h. meets-none x y (bits-apart x y h);
+      within = only-le;
+      only-those = le-only;
+    }

@@ -2,12 +2,13 @@
 use Prim.Native.Nat.{ℕ, zero, suc, _+_, _*_, _/_, _^_, _≤_, _<_, zero-le}
 use native.Mathlib.Nat.{le-refl, one-mul, zero-mul}
 use native.Mathlib.Omega.{arith}
-use mathlib.Core.Bool.{Bool, true, false, cond}
+use mathlib.Core.Bool.{Bool, true, false}
 use mathlib.Core.List.{List, [], _∷_}
 use mathlib.Core.Path.{_≡_, sym, ap, _∙_}
 use lib.ListN.{getD}
 use Rattle.status.specs.Bits.{bitOf, meets, flag}
 use Rattle.status.specs.Status.{otherBits, statusByte}
+use Rattle.status.specs.Flags.{tests, digit, StatusBits}
 use Rattle.status.specs.declared.Registers.{Registers}
 use Rattle.status.specs.declared.Enables.{Enables}
 use Rattle.status.specs.declared.Poll.{Poll}
@@ -31,11 +32,8 @@ other-lt r e p =
       flag-le (meets (r .standard) (e .standard)) 5,
     )
 
--- a test as a bit, and the number that bits make, bit 0 first
-abbrev pub digit : Bool → ℕ
-digit t = cond t 1 0
-
-abbrev pub packed : List Bool → ℕ
+-- the number that bits make, bit 0 first
+abbrev packed : List Bool → ℕ
 packed [] = 0
 packed (t ∷ ts) = digit t + packed ts * 2
 
@@ -55,33 +53,19 @@ packed-bit (t ∷ ts) (suc i) =
     let rest : packed (t ∷ ts) / 2 ≡ packed ts = omega (arith, digit-lt t) in
     bit-suc (packed (t ∷ ts)) i ∙ rw rest (packed-bit ts i)
 
-module _ (r : Registers) (e : Enables) (p : Poll) where
-  -- the tests of bits 0 to 6
-  abbrev pub tests : List Bool
-  tests =
-      p .«at_rest»
-      ∷ p .idle
-      ∷ meets (r .errors) (e .errors)
-      ∷ meets (r .lia) (e .lia)
-      ∷ p .waiting
-      ∷ meets (r .standard) (e .standard)
-      ∷ meets (otherBits r e p) (e .service)
-      ∷ []
+status-packed : (r : Registers) (e : Enables) (p : Poll) → statusByte r e p ≡ packed (tests r e p)
+unfolding statusByte otherBits
+status-packed r e p =
+    omega (
+      arith,
+      flag-digit (p .«at_rest») 0,
+      flag-digit (p .idle) 1,
+      flag-digit (meets (r .errors) (e .errors)) 2,
+      flag-digit (meets (r .lia) (e .lia)) 3,
+      flag-digit (p .waiting) 4,
+      flag-digit (meets (r .standard) (e .standard)) 5,
+      flag-digit (meets (otherBits r e p) (e .service)) 6,
+    )
 
-  status-packed : statusByte r e p ≡ packed tests
-  unfolding statusByte otherBits
-  status-packed =
-      omega (
-        arith,
-        flag-digit (p .«at_rest») 0,
-        flag-digit (p .idle) 1,
-        flag-digit (meets (r .errors) (e .errors)) 2,
-        flag-digit (meets (r .lia) (e .lia)) 3,
-        flag-digit (p .waiting) 4,
-        flag-digit (meets (r .standard) (e .standard)) 5,
-        flag-digit (meets (otherBits r e p) (e .service)) 6,
-      )
-
-  -- each bit of the status byte is set exactly where its test holds; past 6 none is
-  pub status-bits : (i : ℕ) → bitOf (statusByte r e p) i ≡ digit (getD tests i false)
-  status-bits i = ap (λ (n : ℕ). bitOf n i) status-packed ∙ packed-bit tests i
+pub status-bits : StatusBits
+status-bits r e p i = ap (λ (n : ℕ). bitOf n i) (status-packed r e p) ∙ packed-bit (tests r e p) i

@@ -3,17 +3,18 @@ use Prim.Native.Nat.{ℕ, _%_, _^_, _≤_, min}
 use native.Mathlib.Nat.{le-of-eq}
 use native.Mathlib.Omega.{arith}
 use mathlib.Core.Bool.{Bool, true, false, not, and-eq-true-iff}
-use mathlib.Core.Path.{_≡_, refl, ap}
+use mathlib.Core.Path.{_≡_, refl}
 use lib.Dec.{eqb}
 use lib.Bits.{bitAnd, bitOr}
-use borrow.Author.Tests.{eqb-true, eqb-false, eq-eqb, not-true, not-false}
+use borrow.Author.Tests.{eqb-true, eqb-false, not-true}
 use Rattle.name.specs.declared.Register.{Register}
 use Rattle.name.specs.declared.Register.the-variants.{Standard, Service, Lia, Errors}
 use Rattle.status.specs.Bits.{bitOf, withoutBit, withBit, meets, only}
 use Rattle.status.specs.Status.{startRegisters, startEnables, registerOf, withRegister, clearedOf, bitCleared, allCleared, withStandard, withLia, withRaised, mayRaise, liaRaised, errorsRaised, enableOf, withEnableByte, withEnable, withEnableBit, keepsOf, standardUnused, liaUnused, errorsUnused, serviceUnused}
 use Rattle.status.specs.declared.Registers.{Registers}
 use Rattle.status.specs.declared.Enables.{Enables}
-use Rattle.status.proofs.Bits.{bit-or, bit-and, apart-bits, bits-apart, power-other, without-here, without-other}
+use Rattle.status.proofs.Bits.{bit-or, apart-bits, bits-apart, met-none, meets-none, only-le, power-other}
+use Rattle.status.proofs.Bits.{without-here, without-other}
 
 -- ---- bits apart from any mask
 
@@ -41,15 +42,7 @@ cleared-apart x i = bits-apart (withoutBit x i) (2 ^ i) (λ j. by j (eqb i j) re
 
 -- bits within a mask are apart from what the mask is apart from
 pub only-apart : (mask x m : ℕ) → only mask x ≡ true → bitAnd mask m ≡ 0 → bitAnd x m ≡ 0
-unfolding only
-only-apart mask x m h p =
-    bits-apart x m
-    (λ i. omega (
-      arith,
-      bit-and x mask i,
-      ap (λ (n : ℕ). bitOf n i) (eqb-true (bitAnd x mask) x h),
-      apart-bits mask m p i,
-    ))
+only-apart mask x m h p = bits-apart x m (λ i. omega (arith, only-le mask x h i, apart-bits mask m p i))
 
 -- ---- what a state keeps
 
@@ -60,12 +53,7 @@ pub record Kept (r : Registers) (e : Enables) : Type 0 where
   pub service-free : bitAnd (e .service) serviceUnused ≡ 0
 
 free : (x m : ℕ) → not (meets x m) ≡ true → bitAnd x m ≡ 0
-unfolding meets
-free x m h = eqb-true (bitAnd x m) 0 (not-false (eqb (bitAnd x m) 0) (not-true (not (eqb (bitAnd x m) 0)) h))
-
-meets-none : (x m : ℕ) → bitAnd x m ≡ 0 → meets x m ≡ false
-unfolding meets
-meets-none x m h = rw (eq-eqb (bitAnd x m) 0 h)
+free x m h = met-none x m (not-true (meets x m) h)
 
 module _ (r : Registers) (e : Enables) where
   pub kept : keepsOf r e ≡ true → Kept r e

@@ -1,3 +1,4 @@
--- The definitions that the contracts of `status` cite.
+-- The definitions that the contracts of `status` cite, and the promise on the status byte.
 pub mod Bits
 pub mod Status
+pub mod Flags

@@ -14,21 +14,10 @@ use Rattle.divide.specs.Divide.{span, before, after}
 use Rattle.number.specs.Number.{minus, point, letterE, begins, unsigned, digitLimit, hasExponent, isMantissa, isNumber}
 use Rattle.number.specs.Value.{decimalAfter, exactOf}
 use Rattle.number.specs.Quantity.{cap, readOf}
-use Rattle.number.specs.declared.Reading.{Reading}
-use Rattle.number.specs.declared.Reading.the-variants.{Number}
 use Rattle.text.specs.Text.{padded, places, plain, fixed, sign, distance, signedText}
+use Rattle.text.specs.Again.{exactly, ReadAgain}
 use Rattle.text.proofs.Digits.{padded-empty, padded-length, places-some, places-whole}
 use Rattle.text.proofs.Reading.{span-padded, span-all, digits-padded, digits-all, unsigned-padded, begins-padded, decimal-whole}
-
--- a number that is read as n, with nothing left over
-abbrev pub exactly : Bool → ℕ → Reading
-exactly negative n = Number (record { negative = negative; whole = n; half = false; exact = true })
-
--- the law: the text of the value kept as v, read in the same units, is the distance of v and the bias, below zero where v is below the bias.
--- The decimals are fewer than the digits that a number may have, since one stands before the point
-abbrev pub ReadAgain : Type 0
-ReadAgain = (decimals bias v : ℕ) → decimals < digitLimit → bias < 2 ^ 32 → v < 2 ^ 32 →
-    readOf decimals (signedText decimals bias v) ≡ exactly (ltb v bias) (distance bias v)
 
 -- a text whose unsigned part u has no E, a whole part before its point and the decimals after it
 module _ (d n : ℕ) (s u : List ℕ) (signless : unsigned s ≡ u) (free : span letterE u ≡ length u)

@@ -1,2 +1,3 @@
 -- What the replies' texts say.
 pub mod Text
+pub mod Again

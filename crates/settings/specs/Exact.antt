@@ -1,0 +1,14 @@
+-- The promise on a setting's text, proved in `proofs/Exact.antt`: what the code takes of it is what it sets. Assumes nothing.
+use Prim.Native.Nat.{ℕ}
+use mathlib.Core.Path.{_≡_}
+use mathlib.Core.List.{List}
+use Rattle.number.specs.Value.{exactOf}
+use Rattle.number.specs.Quantity.{quantityOf}
+use Rattle.settings.specs.Table.{rowOf}
+use Rattle.settings.specs.Setting.{settingOf, valueTaken}
+
+-- at every entry and of every text: taking what is kept of its number gives the value, or refusal 2, that the exact value
+-- gives; FREQ's step too is the exact value's
+abbrev pub ValueExact : Type 0
+ValueExact = (entry : ℕ) (s : List ℕ) →
+    valueTaken entry (quantityOf (exactOf (rowOf entry .decimals) s)) ≡ settingOf entry s
