@@ -15,7 +15,8 @@ use Rattle.change.specs.Change.{stateAfter}
 use Rattle.reply.specs.Reply.{over, fitsIn, sentOf, sentBytes}
 use Rattle.reply.proofs.Over.{over-none, sentBytes-length, sent-written}
 use Rattle.answer.specs.Reply.{replyOf}
-use Rattle.line.specs.Perform.{refusedBy, refusedWith, nothing, sampledBy, doneBy, performed, performedOf, Does}
+use Rattle.line.specs.Perform.{refusedBy, nothing, sampledBy, doneBy, performed}
+use Rattle.line.specs.Parts.{performedOf, Does, refusedWith}
 
 -- what is written fits the room
 pub written-fits : (bytes : List ℕ) (room : ℕ) → sentOf bytes room .written ≤ room

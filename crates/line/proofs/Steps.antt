@@ -11,8 +11,9 @@ use Rattle.reply.specs.Reply.{over}
 use Rattle.reply.proofs.Over.{over-more, over-take, over-drop}
 use Rattle.line.specs.declared.Performed.{Performed}
 use Rattle.line.specs.declared.Progress.{Progress}
-use Rattle.line.specs.Perform.{Effect, commandOf, Does}
-use Rattle.line.specs.Line.{waits, afterOf, stepOf, progressAfter, lineAt, Runs}
+use Rattle.line.specs.Perform.{Effect, commandOf}
+use Rattle.line.specs.Line.{waits, afterOf, stepOf}
+use Rattle.line.specs.Parts.{Does, progressAfter, lineAt, Runs}
 
 -- the part of a room from a place on, and the room once that part came back as new
 abbrev pub part : List ℕ → ℕ → List ℕ

@@ -11,7 +11,8 @@ use Rattle.divide.proofs.Span.{parts-first, parts-more, parts-last}
 use Rattle.reply.specs.Reply.{over}
 use Rattle.reply.proofs.Over.{over-take, over-drop}
 use Rattle.line.specs.declared.Progress.{Progress}
-use Rattle.line.specs.Line.{Line, stepOf, runAll, lineAt, Runs}
+use Rattle.line.specs.Line.{Line, stepOf, runAll}
+use Rattle.line.specs.Parts.{lineAt, Runs}
 use Rattle.clean.specs.Texts.{semicolon}
 
 -- what is left of the line does from here what the whole does from the start; the room past the bytes written is as it was

@@ -1,9 +1,7 @@
 -- What one command does to the state, the traces and the reply: document 01, "Refusal numbers".
 use Prim.Native.Nat.{ℕ}
 use mathlib.Core.Bool.{Bool, cond}
-use mathlib.Core.Path.{_≡_}
 use mathlib.Core.List.{List, []}
-use lib.ListN.{length}
 use Rattle.refusal.specs.declared.Refusal.{Refusal}
 use Rattle.refusal.specs.declared.Refusal.the-variants.{NotAllowed, NoRoom}
 use Rattle.refusal.specs.declared.Outcome.{Outcome}
@@ -17,9 +15,8 @@ use Rattle.state.specs.Storing.{storedIn}
 use Rattle.state.specs.declared.State.{State}
 use Rattle.allow.specs.Allows.{allowsOf}
 use Rattle.change.specs.Change.{storageAfter, stateAfter}
-use Rattle.reply.specs.Reply.{over, fitsIn}
+use Rattle.reply.specs.Reply.{fitsIn}
 use Rattle.answer.specs.Reply.{replyOf}
-use Rattle.line.specs.declared.Performed.{Performed}
 
 -- the state and both traces after a command, its reply bytes, and whether it was refused
 pub record Effect : Type 0 where
@@ -65,18 +62,3 @@ unfoldable pub commandOf : ℕ → Bool → Parsed → State → List ℕ → Li
 commandOf room waiting Empty s one two = nothing s one two
 commandOf room waiting (Refused r) s one two = refusedBy r s one two
 commandOf room waiting (Taken c) s one two = performed room waiting (c .kind) s one two
-
--- what the code gives back for an effect
-abbrev pub performedOf : Effect → Performed
-performedOf e = record { state = e .state; written = length (e .out); outcome = e .outcome }
-
--- the code's answer r, the traces and the reply room after it are those of the effect; old is the room before
-pub record Does (e : Effect) (r : Performed) (one two new old : List ℕ) : Type 0 where
-  pub told : r ≡ performedOf e
-  pub first : one ≡ e .one
-  pub second : two ≡ e .two
-  pub reply : new ≡ over (e .out) old
-
--- the code's answer for a refused command
-abbrev pub refusedWith : Refusal → State → Performed
-refusedWith r s = record { state = markedBy r s; written = 0; outcome = outcome.Refused r }

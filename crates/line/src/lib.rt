@@ -4,8 +4,9 @@ ghost use Prim.Native.Nat.{_+_, _≤_, _<_};
 ghost use lib.ListN.{length};
 ghost use Rattle.divide.specs.Divide.{parts};
 ghost use Rattle.command.specs.Parsed.{parsedOf};
-ghost use Rattle.line.specs.Perform.{refusedWith, performed, commandOf, Does};
-ghost use Rattle.line.specs.Line.{progressAfter, stepOf, runAll, startLine, textsRun, lineAt, Runs};
+ghost use Rattle.line.specs.Perform.{performed, commandOf};
+ghost use Rattle.line.specs.Line.{stepOf, runAll, startLine};
+ghost use Rattle.line.specs.Parts.{Does, refusedWith, textsRun, progressAfter, lineAt, Runs};
 ghost use Rattle.clean.specs.Texts.{semicolon};
 use command::Command;
 use command::Parsed;
@@ -50,7 +51,9 @@ fn perform(
     two: &mut [u32],
     out: &mut [u8],
 ) -> Performed
-    ensures { λ r. ⌜ Does (performed (length (now (out .entry))) waiting (c .kind) s (now (one .entry)) (now (two .entry))) r (now (one .exit)) (now (two .exit)) (now (out .exit)) (now (out .entry)) ⌝ }
+    ensures { λ r. ⌜ Does
+        (performed (length (now (out .entry))) waiting (c .kind) s (now (one .entry)) (now (two .entry)))
+        r (now (one .exit)) (now (two .exit)) (now (out .exit)) (now (out .entry)) ⌝ }
     ensures { λ r. ⌜ r .written ≤ length (now (out .exit)) ⌝ }
 {
     let kind = c.kind;
@@ -83,7 +86,10 @@ fn take_command(
     two: &mut [u32],
     out: &mut [u8],
 ) -> Performed
-    ensures { λ r. ⌜ Does (commandOf (length (now (out .entry))) waiting (parsedOf (now (text .entry))) s (now (one .entry)) (now (two .entry))) r (now (one .exit)) (now (two .exit)) (now (out .exit)) (now (out .entry)) ⌝ }
+    ensures { λ r. ⌜ Does
+        (commandOf (length (now (out .entry))) waiting (parsedOf (now (text .entry)))
+        s (now (one .entry)) (now (two .entry)))
+        r (now (one .exit)) (now (two .exit)) (now (out .exit)) (now (out .entry)) ⌝ }
     ensures { λ r. ⌜ r .written ≤ length (now (out .exit)) ⌝ }
 {
     let parsed = command::parse(text);
@@ -119,7 +125,10 @@ fn after(p: Progress, d: Performed) -> Progress
 // One more command of a line.
 fn step(p: Progress, text: &[u8], one: &mut [u32], two: &mut [u32], reply: &mut [u8]) -> Progress
     requires { ⌜ (p .at ≤ length (now reply)) × (p .count < 1000) ⌝ }
-    ensures { λ r. ⌜ Runs (stepOf (length (now (reply .entry))) (now (text .entry)) (lineAt p (now (one .entry)) (now (two .entry)) (now (reply .entry)))) r (now (one .exit)) (now (two .exit)) (now (reply .exit)) (now (reply .entry)) ⌝ }
+    ensures { λ r. ⌜ Runs
+        (stepOf (length (now (reply .entry))) (now (text .entry))
+        (lineAt p (now (one .entry)) (now (two .entry)) (now (reply .entry))))
+        r (now (one .exit)) (now (two .exit)) (now (reply .exit)) (now (reply .entry)) ⌝ }
     ensures { λ r. ⌜ (p .at ≤ r .at) × (r .at ≤ length (now (reply .exit))) × (r .count ≡ p .count + 1) ⌝ }
 {
     let at = p.at;
@@ -131,7 +140,10 @@ fn step(p: Progress, text: &[u8], one: &mut [u32], two: &mut [u32], reply: &mut 
 // The commands of a cleaned line, one after the other, up to one that is refused by 4.
 fn run(s: State, text: &[u8], one: &mut [u32], two: &mut [u32], reply: &mut [u8]) -> Progress
     requires { ⌜ length (now text) < 257 ⌝ }
-    ensures { λ r. ⌜ Runs (runAll (length (now (reply .entry))) (parts semicolon (now (text .entry))) (startLine s (now (one .entry)) (now (two .entry)))) r (now (one .exit)) (now (two .exit)) (now (reply .exit)) (now (reply .entry)) ⌝ }
+    ensures { λ r. ⌜ Runs
+        (runAll (length (now (reply .entry))) (parts semicolon (now (text .entry)))
+        (startLine s (now (one .entry)) (now (two .entry))))
+        r (now (one .exit)) (now (two .exit)) (now (reply .exit)) (now (reply .entry)) ⌝ }
 {
     let mut p = Progress {
         state: s,
@@ -165,7 +177,8 @@ pub fn run_line(
     reply: &mut [u8],
 ) -> Progress
     ensures { λ r. ⌜ Runs
-        (runAll (length (now (reply .entry))) (textsRun (now (line .entry))) (startLine s (now (one .entry)) (now (two .entry))))
+        (runAll (length (now (reply .entry))) (textsRun (now (line .entry)))
+        (startLine s (now (one .entry)) (now (two .entry))))
         r (now (one .exit)) (now (two .exit)) (now (reply .exit)) (now (reply .entry)) ⌝ }
 {
     let c = clean::clean(line);
