@@ -62,8 +62,8 @@ startLine s one two = record { state = s; one = one; two = two; out = []; answer
 unfoldable pub lineOf : ℕ → List ℕ → State → List ℕ → List ℕ → Line
 lineOf room line s one two = runAll room (textsOf line) (startLine s one two)
 
--- the commands that the code runs of a line of any length: those among its first 256 bytes that count, which are all where the line has
--- at most 256 bytes
+-- the commands that the code runs of a line of any length: those among its first 256 bytes that count, which are all
+-- where the line has at most 256 bytes
 abbrev pub textsRun : List ℕ → List (List ℕ)
 textsRun line = parts semicolon (take 256 (cleaned line))
 

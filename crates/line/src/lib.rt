@@ -165,7 +165,8 @@ pub fn run_line(
     reply: &mut [u8],
 ) -> Progress
     ensures { λ r. ⌜ Runs
-        (runAll (length (now (reply .entry))) (textsRun (now (line .entry))) (startLine s (now (one .entry)) (now (two .entry))))
+        (runAll (length (now (reply .entry))) (textsRun (now (line .entry)))
+        (startLine s (now (one .entry)) (now (two .entry))))
         r (now (one .exit)) (now (two .exit)) (now (reply .exit)) (now (reply .entry)) ⌝ }
 {
     let c = clean::clean(line);
