@@ -3,8 +3,8 @@ ghost use mathlib.Core.Path.{_≡_};
 ghost use Rattle.verdict.specs.Number.{numberOf};
 ghost use Rattle.script.specs.Check.{checkOf};
 
-// The script check's answer as one number, for every byte range and every capacity. A slice's pointer is never NULL: the header's glazeotter_check, which
-// callers use, passes a byte of its own where the length is 0.
+// The script check's answer as one number, for every byte range and every capacity. A slice's pointer is never NULL:
+// the header's glazeotter_check, which callers use, passes a byte of its own where the length is 0.
 #[no_mangle]
 pub extern "C" fn glazeotter_check_bytes(script: &[u8], capacity: u32) -> u64
     ensures { λ r. ⌜ r ≡ numberOf (checkOf capacity (now (script .entry))) ⌝ }

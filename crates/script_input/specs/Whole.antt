@@ -18,7 +18,8 @@ pub record Whole : Type 0 where
   -- whatever stood in the lent bytes
   pub said : (input lent : List ℕ) → scriptLimit < length lent → saidFrom (allTaken input (held startInput lent)) ≡ saidOf input
 
--- what is read: some bytes, and what is kept after them is what is kept of them. Which bytes a call of C reads no contract can say
+-- what is read: some bytes, and what is kept after them is what is kept of them. Which bytes a call of C reads no
+-- contract can say
 pub record Reads (first after : Held) : Type 0 where
   pub bytes : List ℕ
   pub taken : after ≡ allTaken bytes first
@@ -26,6 +27,12 @@ pub record Reads (first after : Held) : Type 0 where
 -- what the check program writes of what is kept
 pub record Outputs (h : Held) (text : List ℕ) : Type 0 where
   pub kept : text ≡ verdictText (saidFrom h)
-  -- of every input of which this is kept, whatever stood in the lent bytes: the output that document 01 gives the whole input
+  -- of every input of which this is kept, whatever stood in the lent bytes: the output that document 01 gives the
+  -- whole input
   pub whole : (input lent : List ℕ) → scriptLimit < length lent → h ≡ allTaken input (held startInput lent) →
       text ≡ checkOutput input
+
+-- the whole program: what it writes is the output of some input, the one that was read
+pub record OutputOfSome (text : List ℕ) : Type 0 where
+  pub input : List ℕ
+  pub says : text ≡ checkOutput input

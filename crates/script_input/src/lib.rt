@@ -3,7 +3,7 @@ ghost use mathlib.Core.Path.{_≡_};
 ghost use Rattle.verdict_text.specs.Text.{shown};
 ghost use Rattle.input_bytes.specs.Taken.{held};
 ghost use Rattle.script_input.specs.Input.{limitedCheck};
-ghost use Rattle.script_input.specs.Whole.{saidFrom, Outputs};
+ghost use Rattle.script_input.specs.Whole.{saidFrom, Outputs, OutputOfSome};
 
 mod source;
 
@@ -42,4 +42,13 @@ pub fn output_of(input: Input, script: &[u8]) -> Line
     ensures { λ r. ⌜ Outputs (held input (now (script .entry))) (shown r) ⌝ }
 {
     verdict_text::line_of(verdict_from(input, script))
+}
+
+// Reads standard input to its end, and gives what the check program writes of it.
+pub fn read_output() -> Line
+    ensures { λ r. ⌜ OutputOfSome (shown r) ⌝ }
+{
+    let mut script = buffer();
+    let input = read_all(&mut script);
+    output_of(input, &script)
 }

@@ -45,7 +45,8 @@ pub record Writes (n k : ℕ) (out : List ℕ) : Type 0 where
   pub shows : take (k - 0) out ≡ plain n
   pub few : length (take (k - 0) out) ≤ 20
 
-pub decimal-writes : (n k : ℕ) (out : List ℕ) → n < 2 ^ 64 → Fewest 10 1 n k → take k out ≡ digits 10 k n → Writes n k out
+pub decimal-writes : (n k : ℕ) (out : List ℕ) → n < 2 ^ 64 → Fewest 10 1 n k → take k out ≡ digits 10 k n →
+    Writes n k out
 unfolding plain
 decimal-writes n k out h f e =
     let shows : take (k - 0) out ≡ plain n =

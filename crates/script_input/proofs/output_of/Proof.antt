@@ -14,7 +14,8 @@ outputs : (h : Held) (text : List ℕ) → text ≡ verdictText (saidFrom h) →
 outputs h text e =
     record {
       kept = e;
-      whole = λ input lent long kept. e ∙ ap (λ k. verdictText (saidFrom k)) kept ∙ ap verdictText (whole .said input lent long);
+      whole = λ input lent long kept.
+          e ∙ ap (λ k. verdictText (saidFrom k)) kept ∙ ap verdictText (whole .said input lent long);
     }
 
 verdict-from-requires : tie.Need-verdict-from-requires

@@ -14,7 +14,8 @@ check-requires c κs = search needs
 
 returns : tie.Need-returns
 unfolding limitedCheck
-returns c = rw (le-ltb 60000 (length (c .before .before .before .args .script .now)) (omega arith)) (c .check .ensures .0)
+returns c =
+    rw (le-ltb 60000 (length (c .before .before .before .args .script .now)) (omega arith)) (c .check .ensures .0)
 
 capacity-fits-requires : tie.Need-capacity-fits-requires
 capacity-fits-requires c κs = search needs

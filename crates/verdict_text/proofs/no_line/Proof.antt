@@ -49,8 +49,9 @@ returns c =
     let meaning = begun .before .before in
     let a = meaning .before .args in
     c .push-all .ensures .0
-    ∙ rw (third .push-number3 .ensures .0, second .push-number2 .ensures .0, first .push-number .ensures .0, begun .begun .ensures .0, meaning .meaning-of .ensures)
-    (regroup (bytes "no") (spaced (a .line)) (spaced (a .place)) (spaced (meaningOf (a .refusal) .number)) lineEnd)
+    ∙ rw (third .push-number3 .ensures .0, second .push-number2 .ensures .0, first .push-number .ensures .0)
+    (rw (begun .begun .ensures .0, meaning .meaning-of .ensures)
+    (regroup (bytes "no") (spaced (a .line)) (spaced (a .place)) (spaced (meaningOf (a .refusal) .number)) lineEnd))
 
 pub no-line-spec : {M : Type 1} → statement M
 no-line-spec =

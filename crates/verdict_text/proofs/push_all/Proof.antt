@@ -32,7 +32,8 @@ one-more part first bytes len i l p =
       within = omega arith;
       long = length-set bytes (len + i) (getD part i 0) ∙ p .long;
       fits = p .fits;
-      so-far = rw (next, take-suc-set bytes (len + i) (getD part i 0) h, p .so-far, append-assoc, add-one i, take-suc part i 0 l);
+      so-far =
+          rw (next, take-suc-set bytes (len + i) (getD part i 0) h, p .so-far, append-assoc, add-one i, take-suc part i 0 l);
     }
 
 all-pushed : (part first bytes : List ℕ) (len i : ℕ) → i ≡ length part → Pushed part first bytes len i →

@@ -31,7 +31,8 @@ push-all-requires-2 : tie.Need-push-all-requires-2
 push-all-requires-2 c κs =
     let written = c .before .before .before .before in
     let d = written .decimal in
-    let w = decimal-writes (written .before .before .args .value) (d .result) _ (search needs) (d .ensures .1 .0) (d .ensures .1 .1) in
+    let value = written .before .before .args .value in
+    let w = decimal-writes value (d .result) _ (search needs) (d .ensures .1 .0) (d .ensures .1 .1) in
     omega (arith, w .few)
 
 returns : tie.Need-returns

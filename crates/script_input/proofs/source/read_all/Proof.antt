@@ -1,5 +1,5 @@
--- `script_input::source::read_all` meets its contract: at each turn some bytes were read, and what is kept is what is kept of them. The measure is the
--- number of turns that are left. Assumes nothing.
+-- `script_input::source::read_all` meets its contract: at each turn some bytes were read, and what is kept is what is
+-- kept of them. The measure is the number of turns that are left. Assumes nothing.
 use mathlib.Core.Path.{_≡_, refl}
 use lib.ListN.{length}
 use borrow.Author.Needs.{needs}
