@@ -6,7 +6,7 @@ use mathlib.Core.List.{List, [], _∷_}
 use native.Mathlib.Omega.{arith}
 use denote.Enum.Declared.{tagOf}
 use types.Run.{OneOf, miss}
-use Rattle.text.specs.Text.{added}
+use Rattle.text.specs.Parts.{added}
 use Rattle.reply.specs.declared.Sent.{Sent}
 use Rattle.reply.specs.Reply.{fitsIn, sentOf}
 use Rattle.reply.proofs.Over.{over-none}

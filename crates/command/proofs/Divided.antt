@@ -11,11 +11,12 @@ use borrow.Author.Tests.{lt-ltb, le-ltb, leb-true, leb-false, ltb-true, ltb-fals
 use Rattle.divide.specs.Divide.{span, before, after, parts, onHead}
 use Rattle.divide.proofs.Span.{span-le, parts-more, parts-last, rest-from}
 use Rattle.number.specs.Number.{isNumber}
-use Rattle.number.specs.Quantity.{readOf}
+use Rattle.number.specs.Parts.{readOf}
 use Rattle.number.specs.declared.Reading.{Reading}
 use Rattle.number.specs.declared.Reading.the-variants.{Number, NotNumber}
-use Rattle.command.specs.Arguments.{comma, arguments, aloneOf, twoOf}
-use Rattle.command.specs.Taken.{readOne, readTwo, readThree, kept}
+use Rattle.command.specs.Arguments.{comma, arguments}
+use Rattle.command.specs.Parts.{aloneOf, twoOf}
+use Rattle.command.specs.Parts.{readOne, readTwo, readThree, kept}
 use Rattle.command.specs.declared.Two.the-variants.{At, Not}
 use Rattle.command.specs.declared.TwoNumbers.{TwoNumbers}
 use Rattle.command.specs.declared.TwoNumbers.the-variants as pair

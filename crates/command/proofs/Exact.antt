@@ -7,7 +7,7 @@ use native.Mathlib.Omega.{arith}
 use lib.ListN.{length}
 use Rattle.number.specs.Number.{isNumber}
 use Rattle.number.specs.Value.{exactOf}
-use Rattle.number.specs.Quantity.{readOf, takenOf}
+use Rattle.number.specs.Parts.{readOf, takenOf}
 use Rattle.number.proofs.Exact.{taken-exact, under-pos}
 use Rattle.number.specs.declared.Quantity.{Quantity}
 use Rattle.number.specs.declared.Reading.{Reading}
@@ -16,9 +16,10 @@ use Rattle.settings.specs.Table.{rowOf}
 use Rattle.settings.proofs.Exact.{value-exact}
 use Rattle.name.specs.declared.Register.{Register}
 use Rattle.name.specs.declared.Form.{Form}
-use Rattle.command.specs.Arguments.{arguments, aloneOf}
+use Rattle.command.specs.Arguments.{arguments}
+use Rattle.command.specs.Parts.{aloneOf}
 use Rattle.command.specs.Parsed.{malformed, with, taken, one, two, three, wholeRange, wholeOf, setSetting, setChannel, setChannelPair, setEnable, queryChannel, queryChannelPair, queryEnable, queryStatus, queryTrace, alone}
-use Rattle.command.specs.Taken.{kept, readOne, readTwo, readThree, settingTaken, channelTaken, pairTaken, enableTaken, enableBitTaken, channelAsked, pairAsked, enableBitAsked, statusBitAsked, traceAsked}
+use Rattle.command.specs.Parts.{kept, readOne, readTwo, readThree, settingTaken, channelTaken, pairTaken, enableTaken, enableBitTaken, channelAsked, pairAsked, enableBitAsked, statusBitAsked, traceAsked}
 use Rattle.command.specs.declared.SetArgument.the-variants as set
 use Rattle.command.specs.declared.QueryArgument.the-variants as query
 use Rattle.command.specs.declared.Kind.{Kind}

@@ -11,7 +11,7 @@ use borrow.Author.Tests.{lt-ltb, le-ltb, eq-eqb, ne-eqb}
 use Rattle.divide.proofs.Span.{rest-from}
 use Rattle.number.specs.Number.{begins}
 use Rattle.name.specs.Names.{meaningOf}
-use Rattle.name.specs.Word.{word, foundOf}
+use Rattle.name.specs.Parts.{word, foundOf}
 use Rattle.name.specs.Words.{isFour}
 use Rattle.name.proofs.Words.{found-word}
 use Rattle.name.specs.declared.Meaning.{Meaning}

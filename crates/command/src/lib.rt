@@ -2,11 +2,12 @@
 ghost use mathlib.Core.Path.{_≡_};
 ghost use Prim.Native.Nat.{_+_, _-_, _*_, _≤_};
 ghost use lib.ListN.{length, take};
-ghost use Rattle.name.specs.Word.{word};
-ghost use Rattle.number.specs.Quantity.{takenOf};
-ghost use Rattle.command.specs.Arguments.{arguments, aloneOf, twoOf};
+ghost use Rattle.name.specs.Parts.{word};
+ghost use Rattle.number.specs.Parts.{takenOf};
+ghost use Rattle.command.specs.Arguments.{arguments};
+ghost use Rattle.command.specs.Parts.{aloneOf, twoOf};
 ghost use Rattle.command.specs.Parsed.{taken, parsedOf, wholeRange, setWith, queryWith, setSetting, setChannel, setChannelPair, setEnable, queryChannel, queryChannelPair, queryEnable, queryStatus, queryTrace, alone};
-ghost use Rattle.command.specs.Taken.{readOne, readTwo, readThree, settingTaken, channelTaken, pairTaken, enableTaken, enableBitTaken, channelAsked, pairAsked, enableBitAsked, statusBitAsked, traceAsked};
+ghost use Rattle.command.specs.Parts.{readOne, readTwo, readThree, settingTaken, channelTaken, pairTaken, enableTaken, enableBitTaken, channelAsked, pairAsked, enableBitAsked, statusBitAsked, traceAsked};
 use name::Action;
 use name::Form;
 use name::Meaning;

@@ -9,7 +9,7 @@ use lib.Dec.{T, leb, ltb, eqb, leb→le}
 use borrow.Author.Tests.{lt-ltb, le-ltb, le-leb, lt-leb, leb-true, ltb-true, ltb-false, eqb-true}
 use Rattle.number.specs.Number.{isNumber}
 use Rattle.number.specs.Value.{exactOf}
-use Rattle.number.specs.Quantity.{cap, quantityOf, readOf, fitsRange, roundedTo, placedIn, valueIn, takenOf}
+use Rattle.number.specs.Parts.{cap, quantityOf, readOf, fitsRange, roundedTo, placedIn, valueIn, takenOf}
 use Rattle.number.specs.declared.Range.{Range}
 use Rattle.number.specs.declared.Quantity.{Quantity}
 use Rattle.number.specs.declared.Argument.the-variants.{Value}
@@ -18,7 +18,8 @@ use Rattle.number.proofs.Exact.{and-first, and-second}
 use Rattle.text.specs.Text.{distance}
 use Rattle.text.proofs.Again.{read-again}
 use Rattle.settings.specs.Table.{table, rowOf, phas, freq, turnedOf, phase}
-use Rattle.settings.specs.Setting.{stepOf, rangeOf, turnedAt, valueTaken}
+use Rattle.settings.specs.Setting.{stepOf, turnedAt}
+use Rattle.settings.specs.Parts.{rangeOf, valueTaken}
 use Rattle.settings.specs.Allowed.{keeps}
 use Rattle.settings.proofs.Rows.{row-rule, row-size, row-decimals, step-least}
 use Rattle.settings.proofs.Phase.{turned-only}

@@ -9,7 +9,7 @@ use lib.ListN.{length, drop, length-append}
 use borrow.Author.Tests.{le-ltb}
 use Rattle.divide.specs.Divide.{parts}
 use Rattle.number.specs.Number.{isNumber, begins}
-use Rattle.number.specs.Quantity.{takenOf}
+use Rattle.number.specs.Parts.{takenOf}
 use Rattle.number.specs.declared.Argument.the-variants.{Value}
 use Rattle.text.specs.Text.{plain, sign, distance, signedText}
 use Rattle.text.proofs.Value.{fixed-plain}

@@ -7,7 +7,7 @@ use native.Mathlib.Omega.{arith}
 use lib.Dec.{T, eqb, ltb, ltb→lt}
 use borrow.Author.Tests.{eq-eqb, ne-eqb, eqb-true, eqb-false}
 use Rattle.name.specs.Names.{Named, commands, sameBytes, meaningIn}
-use Rattle.name.specs.Word.{word, foundIn}
+use Rattle.name.specs.Parts.{word, foundIn}
 use Rattle.name.specs.Words.{isFour, FoundWord}
 
 abbrev allFour : List Named → Bool

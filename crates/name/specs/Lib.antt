@@ -1,4 +1,4 @@
--- The command names and what each stands for.
+-- The command names and what each stands for; Parts is what only inner functions are held to.
 pub mod Names
-pub mod Word
+pub mod Parts
 pub mod Words

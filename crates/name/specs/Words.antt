@@ -6,7 +6,7 @@ use mathlib.Core.Path.{_≡_}
 use mathlib.Core.List.{List, [], _∷_}
 use lib.Dec.{T, ltb}
 use Rattle.name.specs.Names.{meaningOf}
-use Rattle.name.specs.Word.{word, foundOf}
+use Rattle.name.specs.Parts.{word, foundOf}
 
 -- four bytes
 abbrev pub isFour : List ℕ → Bool

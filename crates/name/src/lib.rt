@@ -1,6 +1,6 @@
 // The command names, in one list in alphabetical order, and what each stands for.
 ghost use mathlib.Core.Path.{_≡_};
-ghost use Rattle.name.specs.Word.{foundOf};
+ghost use Rattle.name.specs.Parts.{foundOf};
 
 // The registers that a command reads, clears or enables. The service register is the status byte with its enables.
 pub enum Register {

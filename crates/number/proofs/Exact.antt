@@ -8,7 +8,7 @@ use lib.Dec.{leb, ltb, eqb}
 use lib.Arith.{mod-mul}
 use borrow.Author.Tests.{lt-leb, leb-true, leb-false, le-ltb, ltb-true, ltb-false, eqb-true, eqb-false}
 use Rattle.number.specs.Value.{Exact, exactOf, inRange, rounded, isWhole, argumentOf}
-use Rattle.number.specs.Quantity.{cap, quantityOf, fitsRange, roundedTo, placedIn, valueIn, takenOf}
+use Rattle.number.specs.Parts.{cap, quantityOf, fitsRange, roundedTo, placedIn, valueIn, takenOf}
 use Rattle.number.specs.Exact.{Small, TakenExact, UnderSome}
 use Rattle.number.proofs.Rounding.{up-le, down-le}
 use Rattle.number.specs.declared.Range.{Range}

@@ -4,7 +4,7 @@ use Prim.Native.Nat.{ℕ, _+_, _<_}
 use mathlib.Core.Path.{_≡_}
 use mathlib.Core.List.{List}
 use Rattle.number.specs.Value.{Exact, exactOf, argumentOf}
-use Rattle.number.specs.Quantity.{quantityOf, takenOf}
+use Rattle.number.specs.Parts.{quantityOf, takenOf}
 use Rattle.number.specs.declared.Range.{Range}
 
 -- a range whose values fit 32 bits, also once they are rounded

@@ -1,5 +1,5 @@
--- What a number's text means, and what is taken of it.
+-- What a number's text means, and what is taken of it; Parts is what only inner functions are held to.
 pub mod Number
 pub mod Value
-pub mod Quantity
+pub mod Parts
 pub mod Exact

@@ -2,7 +2,7 @@
 ghost use mathlib.Core.Path.{_≡_};
 ghost use mathlib.Core.Bool.{cond};
 ghost use Prim.Native.Nat.{_+_, _<_, _≤_};
-ghost use Rattle.number.specs.Quantity.{cap, takenOf, roundedTo, fitsRange, placedIn, valueIn};
+ghost use Rattle.number.specs.Parts.{cap, takenOf, roundedTo, fitsRange, placedIn, valueIn};
 
 // A whole part that lies past every range, at which reading stops to count: 2 to the power 40.
 pub const CAP: u64 = 1099511627776;

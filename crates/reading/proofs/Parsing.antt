@@ -14,8 +14,8 @@ use Rattle.divide.specs.Divide.{span, before, after}
 use Rattle.divide.proofs.Span.{span-le, rest-from}
 use Rattle.number.specs.Number.{minus, point, letterE, begins, unsigned, digits, allDigits, isExponent, isMantissa, hasExponent, isNumber}
 use Rattle.number.specs.Value.{decimal, decimalAfter, up, down, exactOf}
-use Rattle.number.specs.Quantity.{quantityOf, readOf}
-use Rattle.reading.specs.Steps.{shortOf, exponentOf, raisedBy, loweredBy, TwoDigits, Bounded, moved, digitsOf, mantissaOf, withExponent, unsignedOf}
+use Rattle.number.specs.Parts.{quantityOf, readOf}
+use Rattle.reading.specs.Parts.{shortOf, exponentOf, raisedBy, loweredBy, TwoDigits, Bounded, moved, digitsOf, mantissaOf, withExponent, unsignedOf}
 use Rattle.reading.specs.declared.Short.{Short}
 use Rattle.reading.specs.declared.Short.the-variants.{Of, Long}
 use Rattle.reading.specs.declared.Exponent.{Exponent}

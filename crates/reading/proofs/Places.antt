@@ -13,8 +13,8 @@ use lib.Seq.{drop-cons}
 use borrow.Author.Tests.{le-leb, lt-leb, leb-true, leb-false, ltb-true, ltb-false, ne-eqb, eqb-true, eqb-false}
 use Rattle.number.specs.Number.{allDigits, isDigit}
 use Rattle.number.specs.Value.{decimalAfter, decimal}
-use Rattle.number.specs.Quantity.{cap, quantityOf}
-use Rattle.reading.specs.Steps.{digit, places, allZero, moved}
+use Rattle.number.specs.Parts.{cap, quantityOf}
+use Rattle.reading.specs.Parts.{digit, places, allZero, moved}
 use Rattle.number.proofs.Exact.{and-first, and-second}
 
 -- n digits and then m: the first n make the upper part

@@ -11,8 +11,8 @@ use lib.Seq.{drop-cons, getD-append-add}
 use borrow.Author.Tests.{le-leb, lt-leb, eq-eqb, ne-eqb}
 use Rattle.divide.proofs.Span.{within}
 use Rattle.number.specs.Number.{allDigits, isDigit}
-use Rattle.number.specs.Quantity.{cap}
-use Rattle.reading.specs.Steps.{digit, places, allZero}
+use Rattle.number.specs.Parts.{cap}
+use Rattle.reading.specs.Parts.{digit, places, allZero}
 use Rattle.reading.proofs.Places.{digit-range}
 
 -- a test of every byte, from a place on

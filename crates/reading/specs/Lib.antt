@@ -1,2 +1,2 @@
--- What the steps of reading a number give.
-pub mod Steps
+-- What the steps of reading a number give, which only inner functions are held to.
+pub mod Parts

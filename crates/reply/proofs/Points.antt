@@ -9,7 +9,8 @@ use lib.ListN.{length, take, drop, getD, length-append}
 use lib.Seq.{take-at, drop-at, drop-drop, length-take-le}
 use Rattle.point.specs.Bytes.{littleEndian}
 use Rattle.name.specs.declared.Form.{Form}
-use Rattle.reply.specs.Reply.{over, slotOf, wordAt, formed, pointBytes}
+use Rattle.reply.specs.Reply.{over, wordAt, formed, pointBytes}
+use Rattle.reply.specs.Parts.{slotOf}
 use Rattle.reply.proofs.Over.{word-length}
 
 -- bytes w put at the place n of o: what is still to come follows them

@@ -2,7 +2,7 @@
 use Prim.Native.Nat.{ℕ, zero, suc, _%_}
 use mathlib.Core.Bool.{Bool, cond}
 use mathlib.Core.List.{List, [], _++_}
-use lib.Dec.{leb, eqb}
+use lib.Dec.{leb}
 use lib.ListN.{length, drop, getD}
 use Rattle.point.specs.Point.{floatOf}
 use Rattle.point.specs.Bytes.{littleEndian}
@@ -26,10 +26,6 @@ sentOf bytes room = record { fits = fitsIn bytes room; written = cond (fitsIn by
 -- the bytes that are written: "Where nothing is written, all lent memory keeps its bytes."
 unfoldable pub sentBytes : List ℕ → ℕ → List ℕ
 sentBytes bytes room = cond (fitsIn bytes room) bytes []
-
--- the slot of a place, where places are counted on and on round the trace; 0 where there is no slot
-abbrev pub slotOf : ℕ → ℕ → ℕ
-slotOf slots place = cond (eqb slots 0) 0 (place % slots)
 
 -- the word at a place of a trace, where places are counted on and on round it: the one behind the last slot is slot 0
 -- again; 0 of an empty trace

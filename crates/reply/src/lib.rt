@@ -3,9 +3,10 @@ ghost use mathlib.Core.Path.{_≡_};
 ghost use mathlib.Core.List.{_++_};
 ghost use Prim.Native.Nat.{_+_, _*_, _<_, _≤_};
 ghost use lib.ListN.{length, take, drop};
-ghost use Rattle.text.specs.Text.{shown};
+ghost use Rattle.text.specs.Parts.{shown};
 ghost use Rattle.point.specs.Bytes.{littleEndian};
-ghost use Rattle.reply.specs.Reply.{over, sentOf, sentBytes, slotOf, wordAt, formed, pointBytes};
+ghost use Rattle.reply.specs.Reply.{over, sentOf, sentBytes, wordAt, formed, pointBytes};
+ghost use Rattle.reply.specs.Parts.{slotOf};
 use name::Form;
 use text::Text;
 

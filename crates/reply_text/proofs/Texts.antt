@@ -9,7 +9,8 @@ use lib.Seq.{take-suc}
 use Rattle.divide.specs.Ascii.{bytes}
 use Rattle.settings.specs.Table.{rowOf}
 use Rattle.settings.proofs.Rows.{row-size, row-decimals}
-use Rattle.text.specs.Text.{textLimit, added, plain, padded, distance, signedText}
+use Rattle.text.specs.Text.{plain, padded, distance, signedText}
+use Rattle.text.specs.Parts.{textLimit, added}
 use Rattle.text.proofs.Added.{added-join, added-fits}
 use Rattle.text.proofs.Digits.{padded-length}
 use Rattle.text.proofs.Length.{plain-length, signed-length}

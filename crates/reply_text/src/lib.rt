@@ -2,7 +2,8 @@
 ghost use mathlib.Core.Path.{_≡_};
 ghost use Prim.Native.Nat.{_≤_};
 ghost use lib.ListN.{length};
-ghost use Rattle.text.specs.Text.{shown, added, plain};
+ghost use Rattle.text.specs.Text.{plain};
+ghost use Rattle.text.specs.Parts.{shown, added};
 ghost use Rattle.reply_text.specs.ReplyText.{valueNow, valueText, pairText, statusNow, statusOf, identityText, textOf, endOf};
 use command::QueryArgument;
 use name::Register;

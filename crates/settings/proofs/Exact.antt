@@ -6,13 +6,14 @@ use native.Mathlib.Omega.{arith}
 use native.Mathlib.Nat.{div-lt-iff-lt-mul}
 use lib.Dec.{ltb, eqb}
 use Rattle.number.specs.Value.{Exact, exactOf, argumentOf}
-use Rattle.number.specs.Quantity.{cap, quantityOf, takenOf}
+use Rattle.number.specs.Parts.{cap, quantityOf, takenOf}
 use Rattle.number.specs.Exact.{Small}
 use Rattle.number.proofs.Exact.{same-test, taken-exact, under-pos}
 use Rattle.settings.specs.Table.{freq, rowOf}
 use Rattle.settings.specs.Limits.{hertz}
 use Rattle.settings.specs.Frequency.{stepBy}
-use Rattle.settings.specs.Setting.{stepWith, rangeWith, exactStep, turnedAt, settingOf, stepOf, rangeOf, valueTaken}
+use Rattle.settings.specs.Setting.{stepWith, rangeWith, exactStep, turnedAt, settingOf, stepOf}
+use Rattle.settings.specs.Parts.{rangeOf, valueTaken}
 use Rattle.settings.specs.Exact.{ValueExact}
 use Rattle.settings.proofs.Rows.{step-by, row-size}
 

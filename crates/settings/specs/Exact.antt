@@ -3,9 +3,10 @@ use Prim.Native.Nat.{ℕ}
 use mathlib.Core.Path.{_≡_}
 use mathlib.Core.List.{List}
 use Rattle.number.specs.Value.{exactOf}
-use Rattle.number.specs.Quantity.{quantityOf}
+use Rattle.number.specs.Parts.{quantityOf}
 use Rattle.settings.specs.Table.{rowOf}
-use Rattle.settings.specs.Setting.{settingOf, valueTaken}
+use Rattle.settings.specs.Setting.{settingOf}
+use Rattle.settings.specs.Parts.{valueTaken}
 
 -- at every entry and of every text: taking what is kept of its number gives the value, or refusal 2, that the exact value
 -- gives; FREQ's step too is the exact value's

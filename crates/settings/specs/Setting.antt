@@ -4,9 +4,7 @@ use mathlib.Core.Bool.{cond}
 use mathlib.Core.List.{List}
 use lib.Dec.{ltb, eqb}
 use Rattle.number.specs.Value.{Exact, exactOf, argumentOf}
-use Rattle.number.specs.Quantity.{takenOf}
 use Rattle.number.specs.declared.Range.{Range}
-use Rattle.number.specs.declared.Quantity.{Quantity}
 use Rattle.number.specs.declared.Argument.{Argument}
 use Rattle.number.specs.declared.Argument.the-variants.{Value, Refused}
 use Rattle.settings.specs.Table.{phas, freq, rowOf, turnedOf}
@@ -42,12 +40,6 @@ settingOf entry s =
     let v = exactOf (rowOf entry .decimals) s in
     turnedAt entry (argumentOf (rangeWith entry (stepWith entry (exactStep v))) v)
 
--- The same from what is kept of a number, its whole units among it (proofs/Exact.antt shows that it is the same).
+-- an entry's step for a value of so many whole units
 unfoldable pub stepOf : ℕ → ℕ → ℕ
 stepOf entry whole = stepWith entry (frequencyStep whole)
-
-unfoldable pub rangeOf : ℕ → ℕ → Range
-rangeOf entry whole = rangeWith entry (stepOf entry whole)
-
-unfoldable pub valueTaken : ℕ → Quantity → Argument
-valueTaken entry q = turnedAt entry (takenOf (rangeOf entry (q .whole)) q)

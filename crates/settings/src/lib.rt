@@ -5,7 +5,8 @@ ghost use Prim.Native.Nat.{_%_};
 ghost use lib.Dec.{leb, eqb};
 ghost use Rattle.settings.specs.Table.{entries, rowOf, startSettings, turnedOf, behind, valueOf, withValue};
 ghost use Rattle.settings.specs.Frequency.{frequencyStep, inForce, detectionOf, withinLimit, above200, timeConstantStands, crossingOf, frequencyInRange};
-ghost use Rattle.settings.specs.Setting.{stepOf, rangeOf, turnedAt, valueTaken};
+ghost use Rattle.settings.specs.Setting.{stepOf, turnedAt};
+ghost use Rattle.settings.specs.Parts.{rangeOf, valueTaken};
 ghost use Rattle.settings.specs.Allowed.{every, keeps, keepsAll, allowedOf};
 
 mod table;

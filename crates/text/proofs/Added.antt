@@ -6,7 +6,7 @@ use native.Mathlib.Omega.{arith}
 use native.Mathlib.Numerals.{add-one}
 use lib.ListN.{length, take, set, length-append, length-take}
 use lib.Seq.{take-all, take-at, take-suc-set, length-take-le}
-use Rattle.text.specs.Text.{added, textLimit}
+use Rattle.text.specs.Parts.{added, textLimit}
 
 -- two parts added one after the other are their join added
 take-front : (n : ℕ) (xs bs : List ℕ) → take n (take n xs ++ bs) ≡ take n (xs ++ bs)

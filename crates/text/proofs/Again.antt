@@ -13,7 +13,7 @@ use lib.Seq.{take-length, take-append-seam, drop-append-add}
 use Rattle.divide.specs.Divide.{span, before, after}
 use Rattle.number.specs.Number.{minus, point, letterE, begins, unsigned, digitLimit, hasExponent, isMantissa, isNumber}
 use Rattle.number.specs.Value.{decimalAfter, exactOf}
-use Rattle.number.specs.Quantity.{cap, readOf}
+use Rattle.number.specs.Parts.{cap, readOf}
 use Rattle.text.specs.Text.{padded, places, plain, fixed, sign, distance, signedText}
 use Rattle.text.specs.Again.{exactly, ReadAgain}
 use Rattle.text.proofs.Digits.{padded-empty, padded-length, places-some, places-whole}

@@ -10,7 +10,8 @@ use borrow.Author.Tests.{ltb-true, ltb-false, le-ltb, lt-ltb}
 use lib.Dec.{ltb}
 use lib.Pow.{pow-add}
 use lib.ListN.{length}
-use Rattle.text.specs.Text.{added, padded, placesIn, places}
+use Rattle.text.specs.Text.{padded, placesIn, places}
+use Rattle.text.specs.Parts.{added}
 use Rattle.text.proofs.Added.{added-join}
 
 pub padded-empty : (n : ℕ) → padded 0 n ≡ []

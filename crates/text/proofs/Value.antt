@@ -5,7 +5,8 @@ use mathlib.Core.List.{List, [], _∷_, append-nil}
 use native.Mathlib.Nat.{div-one}
 use borrow.Author.Tests.{ne-eqb}
 use Rattle.number.specs.Number.{point}
-use Rattle.text.specs.Text.{added, padded, plain, fixed}
+use Rattle.text.specs.Text.{padded, plain, fixed}
+use Rattle.text.specs.Parts.{added}
 use Rattle.text.proofs.Added.{added-join}
 
 -- with no decimals the number is plain

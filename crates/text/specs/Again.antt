@@ -5,7 +5,7 @@ use mathlib.Core.Bool.{Bool, true, false}
 use mathlib.Core.Path.{_≡_}
 use lib.Dec.{ltb}
 use Rattle.number.specs.Number.{digitLimit}
-use Rattle.number.specs.Quantity.{readOf}
+use Rattle.number.specs.Parts.{readOf}
 use Rattle.number.specs.declared.Reading.{Reading}
 use Rattle.number.specs.declared.Reading.the-variants.{Number}
 use Rattle.text.specs.Text.{distance, signedText}

@@ -1,3 +1,4 @@
--- What the replies' texts say.
+-- What the replies' texts say. Again is the promise on them, Parts is what only inner functions are held to.
 pub mod Text
+pub mod Parts
 pub mod Again

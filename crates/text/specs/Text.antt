@@ -3,21 +3,7 @@ use Prim.Native.Nat.{ℕ, zero, suc, _+_, _-_, _/_, _%_, _^_}
 use mathlib.Core.Bool.{cond}
 use mathlib.Core.List.{List, [], _∷_, _++_}
 use lib.Dec.{ltb, eqb}
-use lib.ListN.{take}
 use Rattle.number.specs.Number.{minus, point}
-use Rattle.text.specs.declared.Text.{Text}
-
--- what a text says: its bytes up to its length
-abbrev pub shown : Text → List ℕ
-shown t = take (t .len) (t .bytes)
-
--- the most bytes that a text holds: more than any reply that is a text has
-abbrev pub textLimit : ℕ
-textLimit = 32
-
--- bytes added at the end; what goes past the limit is dropped
-unfoldable pub added : List ℕ → List ℕ → List ℕ
-added xs bs = take textLimit (xs ++ bs)
 
 -- "the serial in five digits": the last digits of n, as many as the width says, from the one at the highest place to the one at place 0. 48 is "0"
 unfoldable pub padded : ℕ → ℕ → List ℕ

@@ -2,7 +2,8 @@
 ghost use mathlib.Core.Path.{_≡_};
 ghost use mathlib.Core.List.{[], _∷_};
 ghost use Prim.Native.Nat.{_+_, _/_, _%_, _^_};
-ghost use Rattle.text.specs.Text.{shown, added, padded, places, plain, fixed, sign, distance, signedText, next};
+ghost use Rattle.text.specs.Text.{padded, places, plain, fixed, sign, distance, signedText, next};
+ghost use Rattle.text.specs.Parts.{shown, added};
 
 // The most bytes that a text holds: more than any reply that is a text has.
 const LIMIT: usize = 32;

@@ -1,6 +1,6 @@
 -- `command::ask_channel` meets its contract. Assumes nothing.
 use mathlib.Core.Path.{sym, _∙_}
-use Rattle.command.specs.Taken.{channelAsked}
+use Rattle.command.specs.Parts.{channelAsked}
 use borrow.Author.Needs.{needs}
 use Rattle.command.proofs.ask_channel.Statement.{statement}
 use Rattle.command.proofs.ask_channel.Tie as tie

@@ -1,6 +1,6 @@
 -- `command::ask_pair` meets its contract. Assumes nothing.
 use mathlib.Core.Path.{sym, _∙_}
-use Rattle.command.specs.Taken.{pairAsked}
+use Rattle.command.specs.Parts.{pairAsked}
 use borrow.Author.Needs.{needs}
 use Rattle.command.proofs.ask_pair.Statement.{statement}
 use Rattle.command.proofs.ask_pair.Tie as tie

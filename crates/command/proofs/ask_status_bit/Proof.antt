@@ -1,6 +1,6 @@
 -- `command::ask_status_bit` meets its contract. Assumes nothing.
 use mathlib.Core.Path.{sym, _∙_}
-use Rattle.command.specs.Taken.{statusBitAsked}
+use Rattle.command.specs.Parts.{statusBitAsked}
 use borrow.Author.Needs.{needs}
 use Rattle.command.proofs.ask_status_bit.Statement.{statement}
 use Rattle.command.proofs.ask_status_bit.Tie as tie

@@ -1,6 +1,6 @@
 -- `command::ask_trace` meets its contract. Assumes nothing.
 use mathlib.Core.Path.{sym, _∙_}
-use Rattle.command.specs.Taken.{traceAsked}
+use Rattle.command.specs.Parts.{traceAsked}
 use borrow.Author.Needs.{needs}
 use Rattle.command.proofs.ask_trace.Statement.{statement}
 use Rattle.command.proofs.ask_trace.Tie as tie

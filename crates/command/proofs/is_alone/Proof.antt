@@ -1,6 +1,6 @@
 -- `command::is_alone` meets its contract. Assumes nothing.
 use borrow.Author.Tests.{le-leb, lt-leb}
-use Rattle.command.specs.Arguments.{aloneOf}
+use Rattle.command.specs.Parts.{aloneOf}
 use borrow.Author.Needs.{needs}
 use Rattle.command.proofs.is_alone.Statement.{statement}
 use Rattle.command.proofs.is_alone.Tie as tie

@@ -1,6 +1,6 @@
 -- `command::read_one` meets its contract. Assumes nothing.
 use mathlib.Core.Path.{sym, _∙_}
-use Rattle.command.specs.Taken.{readOne}
+use Rattle.command.specs.Parts.{readOne}
 use Rattle.command.proofs.Divided.{alone-true, alone-false}
 use borrow.Author.Needs.{needs}
 use Rattle.command.proofs.read_one.Statement.{statement}

@@ -1,6 +1,6 @@
 -- `command::take_channel` meets its contract. Assumes nothing.
 use mathlib.Core.Path.{sym, _∙_}
-use Rattle.command.specs.Taken.{channelTaken}
+use Rattle.command.specs.Parts.{channelTaken}
 use borrow.Author.Needs.{needs}
 use Rattle.command.proofs.take_channel.Statement.{statement}
 use Rattle.command.proofs.take_channel.Tie as tie

@@ -1,6 +1,6 @@
 -- `command::take_enable` meets its contract. Assumes nothing.
 use mathlib.Core.Path.{sym, _∙_}
-use Rattle.command.specs.Taken.{enableTaken}
+use Rattle.command.specs.Parts.{enableTaken}
 use borrow.Author.Needs.{needs}
 use Rattle.command.proofs.take_enable.Statement.{statement}
 use Rattle.command.proofs.take_enable.Tie as tie

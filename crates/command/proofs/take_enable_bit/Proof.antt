@@ -1,6 +1,6 @@
 -- `command::take_enable_bit` meets its contract. Assumes nothing.
 use mathlib.Core.Path.{sym, _∙_}
-use Rattle.command.specs.Taken.{enableBitTaken}
+use Rattle.command.specs.Parts.{enableBitTaken}
 use borrow.Author.Needs.{needs}
 use Rattle.command.proofs.take_enable_bit.Statement.{statement}
 use Rattle.command.proofs.take_enable_bit.Tie as tie

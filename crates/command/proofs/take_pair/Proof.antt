@@ -1,6 +1,6 @@
 -- `command::take_pair` meets its contract. Assumes nothing.
 use mathlib.Core.Path.{sym, _∙_}
-use Rattle.command.specs.Taken.{pairTaken}
+use Rattle.command.specs.Parts.{pairTaken}
 use borrow.Author.Needs.{needs}
 use Rattle.command.proofs.take_pair.Statement.{statement}
 use Rattle.command.proofs.take_pair.Tie as tie

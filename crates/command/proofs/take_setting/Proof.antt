@@ -1,6 +1,6 @@
 -- `command::take_setting` meets its contract. Assumes nothing.
 use mathlib.Core.Path.{sym, _∙_}
-use Rattle.command.specs.Taken.{settingTaken}
+use Rattle.command.specs.Parts.{settingTaken}
 use borrow.Author.Needs.{needs}
 use Rattle.command.proofs.take_setting.Statement.{statement}
 use Rattle.command.proofs.take_setting.Tie as tie

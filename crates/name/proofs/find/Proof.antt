@@ -5,7 +5,7 @@ use mathlib.Core.Path.{_≡_, refl, sym}
 use mathlib.Core.List.{List, [], _∷_}
 use borrow.Author.Tests.{ne-eqb}
 use Rattle.name.specs.Names.{Named, commands}
-use Rattle.name.specs.Word.{word, foundIn, foundOf}
+use Rattle.name.specs.Parts.{word, foundIn, foundOf}
 use Rattle.name.specs.declared.Meaning.{Meaning}
 use Rattle.name.specs.declared.Meaning.the-variants.{Unknown}
 use Rattle.name.proofs.find.Statement.{statement}

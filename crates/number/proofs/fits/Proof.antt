@@ -1,5 +1,5 @@
 use borrow.Author.Tests.{le-leb, lt-leb}
-use Rattle.number.specs.Quantity.{fitsRange}
+use Rattle.number.specs.Parts.{fitsRange}
 use borrow.Author.Needs.{needs}
 use Rattle.number.proofs.fits.Statement.{statement}
 use Rattle.number.proofs.fits.Tie as tie

@@ -1,4 +1,4 @@
-use Rattle.number.specs.Quantity.{placedIn}
+use Rattle.number.specs.Parts.{placedIn}
 use native.Mathlib.Omega.{arith}
 use borrow.Author.Needs.{needs}
 use Rattle.number.proofs.placed.Statement.{statement}

@@ -2,7 +2,7 @@ use native.Mathlib.Nat.{mod-lt, div-le-self, mul-zero, add-zero}
 use Rattle.number.proofs.Rounding.{up-le, down-le}
 use native.Mathlib.Omega.{arith}
 use borrow.Author.Tests.{le-leb, lt-leb}
-use Rattle.number.specs.Quantity.{roundedTo}
+use Rattle.number.specs.Parts.{roundedTo}
 use borrow.Author.Needs.{needs}
 use Rattle.number.proofs.round_to.Statement.{statement}
 use Rattle.number.proofs.round_to.Tie as tie

@@ -1,6 +1,6 @@
 -- `number::take` meets its contract. Assumes nothing.
 use borrow.Author.Tests.{lt-ltb, le-ltb}
-use Rattle.number.specs.Quantity.{takenOf}
+use Rattle.number.specs.Parts.{takenOf}
 use borrow.Author.Needs.{needs}
 use Rattle.number.proofs.take.Statement.{statement}
 use Rattle.number.proofs.take.Tie as tie

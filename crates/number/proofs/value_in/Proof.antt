@@ -1,6 +1,6 @@
 -- `number::value_in` meets its contract. Assumes nothing.
 use borrow.Author.Tests.{lt-ltb, le-ltb}
-use Rattle.number.specs.Quantity.{valueIn}
+use Rattle.number.specs.Parts.{valueIn}
 use borrow.Author.Needs.{needs}
 use Rattle.number.proofs.value_in.Statement.{statement}
 use Rattle.number.proofs.value_in.Tie as tie

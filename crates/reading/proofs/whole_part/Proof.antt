@@ -4,8 +4,8 @@ use mathlib.Core.Path.{_≡_, refl, ap, _∙_}
 use mathlib.Core.List.{_++_}
 use native.Mathlib.Omega.{arith}
 use native.Mathlib.Nat.{min-le-left}
-use Rattle.number.specs.Quantity.{cap}
-use Rattle.reading.specs.Steps.{places}
+use Rattle.number.specs.Parts.{cap}
+use Rattle.reading.specs.Parts.{places}
 use Rattle.reading.proofs.Places.{digit-range}
 use Rattle.reading.proofs.Scan.{grow}
 use Rattle.reading.proofs.whole_part.Statement.{statement}

@@ -4,7 +4,7 @@ use mathlib.Core.Path.{_≡_, refl, sym, _∙_}
 use mathlib.Core.List.{_++_}
 use native.Mathlib.Omega.{arith}
 use lib.ListN.{length-append, drop}
-use Rattle.reading.specs.Steps.{allZero}
+use Rattle.reading.specs.Parts.{allZero}
 use Rattle.reading.proofs.Scan.{zeros-stop, zeros-more, zeros-end}
 use Rattle.reading.proofs.zero_from.Statement.{statement}
 use Rattle.reading.proofs.zero_from.Tie as tie

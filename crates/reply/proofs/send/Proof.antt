@@ -1,7 +1,7 @@
 -- `reply::send` meets its contract: a text that fits is copied whole, any other leaves the room as it was. Assumes nothing.
 use lib.ListN.{length-take}
 use native.Mathlib.Omega.{arith}
-use Rattle.text.specs.Text.{shown}
+use Rattle.text.specs.Parts.{shown}
 use Rattle.reply.proofs.Sending.{not-sent, text-sent}
 use borrow.Author.Needs.{needs}
 use Rattle.reply.proofs.send.Statement.{statement}

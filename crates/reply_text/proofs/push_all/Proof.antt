@@ -5,7 +5,7 @@ use native.Mathlib.Omega.{arith}
 use lib.ListN.{length, take}
 use lib.Seq.{take-all}
 use borrow.Author.Needs.{needs}
-use Rattle.text.specs.Text.{shown, added}
+use Rattle.text.specs.Parts.{shown, added}
 use Rattle.text.proofs.Added.{added-none, shown-length}
 use Rattle.reply_text.proofs.Texts.{added-more}
 use Rattle.reply_text.proofs.push_all.Statement.{statement}

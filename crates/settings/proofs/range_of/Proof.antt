@@ -1,6 +1,6 @@
 -- `settings::range_of` meets its contract. Assumes nothing.
 use borrow.Author.Needs.{needs}
-use Rattle.settings.specs.Setting.{rangeOf}
+use Rattle.settings.specs.Parts.{rangeOf}
 use Rattle.settings.proofs.range_of.Statement.{statement}
 use Rattle.settings.proofs.range_of.Tie as tie
 

@@ -1,6 +1,6 @@
 -- `settings::take_value` meets its contract. Assumes nothing.
 use borrow.Author.Needs.{needs}
-use Rattle.settings.specs.Setting.{valueTaken}
+use Rattle.settings.specs.Parts.{valueTaken}
 use Rattle.settings.proofs.take_value.Statement.{statement}
 use Rattle.settings.proofs.take_value.Tie as tie
 

@@ -1,7 +1,7 @@
 -- `text::push_fixed` meets its contract: with no decimals the plain number, else the whole part, the point and the decimals. Assumes nothing.
 use mathlib.Core.Path.{_∙_}
 use borrow.Author.Needs.{needs}
-use Rattle.text.specs.Text.{shown}
+use Rattle.text.specs.Parts.{shown}
 use Rattle.text.proofs.Value.{fixed-plain, fixed-added}
 use Rattle.text.proofs.push_fixed.Statement.{statement}
 use Rattle.text.proofs.push_fixed.Tie as tie

@@ -4,7 +4,8 @@ use mathlib.Core.Path.{_≡_, refl, sym, _∙_}
 use native.Mathlib.Omega.{arith}
 use lib.ListN.{length}
 use borrow.Author.Needs.{needs}
-use Rattle.text.specs.Text.{textLimit, shown, added, padded}
+use Rattle.text.specs.Text.{padded}
+use Rattle.text.specs.Parts.{textLimit, shown, added}
 use Rattle.text.proofs.Added.{added-none, added-length, shown-length}
 use Rattle.text.proofs.Digits.{padded-empty, padded-added}
 use Rattle.text.proofs.push_padded.Statement.{statement}

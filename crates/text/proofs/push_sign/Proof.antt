@@ -2,7 +2,8 @@
 use mathlib.Core.Path.{sym, _∙_}
 use borrow.Author.Needs.{needs}
 use borrow.Author.Tests.{lt-ltb, le-ltb}
-use Rattle.text.specs.Text.{shown, sign}
+use Rattle.text.specs.Text.{sign}
+use Rattle.text.specs.Parts.{shown}
 use Rattle.text.proofs.Added.{added-none, shown-length}
 use Rattle.text.proofs.push_sign.Statement.{statement}
 use Rattle.text.proofs.push_sign.Tie as tie

@@ -1,28 +1,47 @@
--- What the steps of reading a command give, from what is kept of its numbers (proofs/Exact.antt shows that it is what Parsed.antt says).
+-- What only inner functions are held to: a command's arguments by the places of the commas (proofs/Divided.antt joins it to
+-- Arguments), and what comes of them by what is kept of their numbers (proofs/Exact.antt joins it to Parsed). No promise of
+-- a public call speaks of these.
 use Prim.Native.Nat.{ℕ, _+_, _-_, _*_}
-use mathlib.Core.Bool.{cond, _&&_}
+use mathlib.Core.Bool.{Bool, cond, _&&_}
 use mathlib.Core.List.{List, [], _∷_}
+use lib.Dec.{leb, ltb, eqb}
+use lib.ListN.{length}
+use Rattle.divide.specs.Divide.{span, after}
 use Rattle.number.specs.Number.{isNumber}
 use Rattle.number.specs.Value.{exactOf}
-use Rattle.number.specs.Quantity.{quantityOf, readOf, takenOf}
+use Rattle.number.specs.Parts.{quantityOf, readOf, takenOf}
 use Rattle.number.specs.declared.Quantity.{Quantity}
 use Rattle.number.specs.declared.Reading.{Reading}
 use Rattle.number.specs.declared.Reading.the-variants.{NotNumber}
 use Rattle.number.specs.declared.Argument.{Argument}
 use Rattle.settings.specs.Limits.{capacityLeast, capacityMost}
-use Rattle.settings.specs.Setting.{valueTaken}
+use Rattle.settings.specs.Parts.{valueTaken}
 use Rattle.name.specs.declared.Register.{Register}
 use Rattle.name.specs.declared.Form.{Form}
+use Rattle.command.specs.Arguments.{comma}
 use Rattle.command.specs.Parsed.{taken, with, wholeRange, bitMost, registerMost, traces}
 use Rattle.command.specs.declared.SetArgument.the-variants as set
 use Rattle.command.specs.declared.QueryArgument.the-variants as query
 use Rattle.command.specs.declared.Kind.the-variants.{Set, Query}
 use Rattle.command.specs.declared.Parsed.{Parsed}
+use Rattle.command.specs.declared.Two.{Two}
+use Rattle.command.specs.declared.Two.the-variants.{At, Not}
 use Rattle.command.specs.declared.TwoNumbers.{TwoNumbers}
 use Rattle.command.specs.declared.TwoNumbers.the-variants as pair
 use Rattle.command.specs.declared.ThreeNumbers.{ThreeNumbers}
 use Rattle.command.specs.declared.ThreeNumbers.the-variants as triple
 
+-- one argument and no comma; two, and the place of the comma between them
+unfoldable pub aloneOf : List ℕ → Bool
+aloneOf s = leb 1 (length s) && eqb (span comma s) (length s)
+
+unfoldable pub twoOf : List ℕ → Two
+twoOf s =
+    cond (ltb (span comma s) (length s))
+    (cond (ltb (span comma (after comma s)) (length (after comma s))) Not (At (span comma s)))
+    Not
+
+-- what is kept of a number's text
 abbrev pub kept : ℕ → List ℕ → Quantity
 kept decimals a = quantityOf (exactOf decimals a)
 

@@ -1,4 +1,5 @@
--- What the steps of reading a number give, one definition for each function inside the crate.
+-- What only inner functions are held to: what the steps of reading a number give, one definition for each function inside
+-- the crate. No promise of a public call speaks of these.
 use Prim.Native.Nat.{ℕ, zero, suc, _+_, _-_, _*_, _^_, _≤_}
 use mathlib.Core.Bool.{Bool, true, cond, _&&_}
 use mathlib.Core.List.{List, [], _∷_, _++_}
@@ -7,7 +8,7 @@ use lib.ListN.{length, getD}
 use Rattle.divide.specs.Divide.{before, after}
 use Rattle.number.specs.Number.{point, letterE, allDigits, digitLimit, isExponent, hasExponent}
 use Rattle.number.specs.Value.{decimal, Exact, up, down}
-use Rattle.number.specs.Quantity.{quantityOf}
+use Rattle.number.specs.Parts.{quantityOf}
 use Rattle.number.specs.declared.Reading.{Reading}
 use Rattle.number.specs.declared.Reading.the-variants.{Number, NotNumber}
 use Rattle.reading.specs.declared.Short.{Short}

@@ -1,4 +1,5 @@
--- What is kept of a number between reading and taking: enough to test any range and to round to any step (proofs/Exact.antt shows it).
+-- What only inner functions are held to: what is kept of a number between reading and taking. Exact says that it is enough
+-- to test any range and to round to any step. No promise of a public call speaks of these.
 use Prim.Native.Nat.{ℕ, _+_, _-_, _*_, _/_, _%_, min}
 use mathlib.Core.Bool.{Bool, cond, not, _&&_, _||_}
 use mathlib.Core.List.{List}

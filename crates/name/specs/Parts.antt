@@ -1,4 +1,5 @@
--- A name's four bytes as one number, by which the list is searched (proofs/Words.antt: it is the search by bytes).
+-- What only inner functions are held to: a name's four bytes as one number, by which the list is searched. Words says that
+-- this is the search by bytes. No promise of a public call speaks of these.
 use Prim.Native.Nat.{ℕ, _+_, _*_}
 use mathlib.Core.Bool.{cond}
 use mathlib.Core.List.{List, [], _∷_}

@@ -1,0 +1,17 @@
+-- What only inner functions are held to: a text that is being written. No promise of a public call speaks of these.
+use Prim.Native.Nat.{ℕ}
+use mathlib.Core.List.{List, _++_}
+use lib.ListN.{take}
+use Rattle.text.specs.declared.Text.{Text}
+
+-- what a text says: its bytes up to its length
+abbrev pub shown : Text → List ℕ
+shown t = take (t .len) (t .bytes)
+
+-- the most bytes that a text holds: more than any reply that is a text has
+abbrev pub textLimit : ℕ
+textLimit = 32
+
+-- bytes added at the end; what goes past the limit is dropped
+unfoldable pub added : List ℕ → List ℕ → List ℕ
+added xs bs = take textLimit (xs ++ bs)
