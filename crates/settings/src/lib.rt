@@ -7,7 +7,7 @@ ghost use Rattle.settings.specs.Table.{entries, rowOf, startSettings, tu
 ghost use Rattle.settings.specs.Frequency.{frequencyStep, inForce, detectionOf, withinLimit, above200, timeConstantStands, crossingOf, frequencyInRange};
 ghost use Rattle.settings.specs.Setting.{stepOf, turnedAt};
 ghost use Rattle.settings.specs.Parts.{rangeOf, valueTaken};
-ghost use Rattle.settings.specs.Allowed.{every, keeps, keepsAll, allowedOf};
+ghost use Rattle.settings.specs.Allowed.{every, keepsAll, allowedOf};
 
 mod table;
 
@@ -323,15 +323,6 @@ fn turned_at(entry: usize, taken: number::Argument) -> number::Argument
         return number::Argument::Value(turned(value));
     }
     number::Argument::Value(value)
-}
-
-// Whether a state may keep a value at an entry: in its range and on its step.
-pub fn keeps_value(entry: usize, value: u32) -> bool
-    ensures { λ r. ⌜ r ≡ keeps entry value ⌝ }
-{
-    let row = row_of(entry);
-    let step = step_of(entry, value as u64);
-    (row.least <= value) & ((value <= row.most) & (value % step == 0))
 }
 
 // Whether every value lies in its entry's range. No value ends the loop early: so it is unrolled whole, four values are
