@@ -39,7 +39,8 @@ meaningOf BadTraces = numbered 9 none
 meaningOf BadStart = numbered 10 none
 meaningOf BadState = numbered 11 none
 
--- document 01's number of an outcome: 0 where nothing is refused, else the refusal's number. The promises of the start, of events and of the serial poll use it
+-- document 01's number of an outcome: 0 where nothing is refused, else the refusal's number. The promises of the start,
+-- of events and of the serial poll use it
 unfoldable pub numberOf : Outcome → ℕ
 numberOf Done = 0
 numberOf (Refused refusal) = meaningOf refusal .number
