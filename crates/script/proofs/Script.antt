@@ -18,7 +18,7 @@ use Rattle.two_courses.specs.declared.Both.{Both}
 use Rattle.script.specs.declared.Swept.{Swept}
 use Rattle.verdict.specs.declared.Verdict.the-variants.{Fine, No}
 use Rattle.script.specs.Check.{verdictOf, linesVerdict, linesOf}
-use Rattle.script.specs.Given.{Sweeps}
+use Rattle.script.specs.Parts.{Sweeps}
 use Rattle.script.proofs.Parts.{lines-first, lines-none}
 
 -- what is left of the script says from here what the whole says from the start

@@ -17,7 +17,7 @@ use Rattle.refusal.specs.declared.Answer.the-variants as answer
 use Rattle.two_courses.specs.Courses.{textRefusal, textAfter}
 use Rattle.two_courses.specs.declared.Both.{Both}
 use Rattle.script.specs.Check.{answerAt, textsAnswer, textsAfter}
-use Rattle.script.specs.Given.{Sweeps}
+use Rattle.script.specs.Parts.{Sweeps}
 
 -- what is left of the line answers from here what the whole answers from the start
 pub record OnWay (capacity : ℕ) (text : List ℕ) (b₀ : Both) (b : Both) (place a : ℕ) : Type 0 where

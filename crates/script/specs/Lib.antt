@@ -1,3 +1,3 @@
 -- What the script check says.
 pub mod Check
-pub mod Given
+pub mod Parts

@@ -8,7 +8,7 @@ ghost use Rattle.clean.specs.Texts.{semicolon, textsOf};
 ghost use Rattle.two_courses.specs.Courses.{gapOf, startBoth};
 ghost use Rattle.verdict.specs.Said.{said};
 ghost use Rattle.script.specs.Check.{linesVerdict, linesOf, capacityFits, checkOf};
-ghost use Rattle.script.specs.Given.{Sweeps};
+ghost use Rattle.script.specs.Parts.{Sweeps};
 use refusal::Answer;
 use refusal::Outcome;
 use refusal::Refusal;

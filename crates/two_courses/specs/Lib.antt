@@ -1,3 +1,3 @@
 -- The definitions that the contracts of `two_courses` cite.
 pub mod Courses
-pub mod Given
+pub mod Parts

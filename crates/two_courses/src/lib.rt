@@ -3,7 +3,7 @@ ghost use mathlib.Core.Path.{_≡_};
 ghost use Prim.Native.Nat.{_/_};
 ghost use Rattle.settings.specs.Limits.{detectionLimit};
 ghost use Rattle.two_courses.specs.Courses.{resets, measuredHigh, triggeredHigh, gapOf, kindRefusal, textRefusal, kindAfter, textAfter, startBoth};
-ghost use Rattle.two_courses.specs.Given.{earlyOf, begunAfter};
+ghost use Rattle.two_courses.specs.Parts.{earlyOf, begunAfter};
 use command::Kind;
 use command::Parsed;
 use refusal::Outcome;
