@@ -41,13 +41,15 @@ use Rattle.demands.specs.Representable.{StateFits}
 use Rattle.demands.specs.Written.{written}
 use Rattle.demands.specs.Demand2 as claim
 use Rattle.demands.specs.Demand2.{Address, atEntry, atEnable, plainly, channelled, alone, channel, pair, enable}
-use Rattle.demands.specs.Demand2.{valuesAt, replyTo, Ready, answered, CanRefuse, SentBack, taken, refused}
+use Rattle.demands.specs.Demand2.{valuesAt, replyTo, Ready, answered, OthersStay, CanRefuse, SentBack, taken}
+use Rattle.demands.specs.Demand2.{refused}
 use Rattle.demands.specs.Demand2.{Internal, Settable, RoundTrip, Demand2}
 use Rattle.demands.proofs.Meanings.{name-of-one, name-of-channel, name-of-pair, name-of-enable}
 use Rattle.demands.proofs.Says.{Says, said-call, asked-call}
 use Rattle.demands.proofs.Parsing.{one-asked, one-sent, channel-asked, channel-sent, pair-asked, pair-sent}
 use Rattle.demands.proofs.Parsing.{enable-asked, enable-sent}
 use Rattle.demands.proofs.Kept.{kept-value, now-kept, behind-is, value-after, pair-first, pair-second}
+use Rattle.demands.proofs.Same.{value-others, pair-others, enable-others}
 use Rattle.demands.proofs.Same.{set-refused, value-back, value-same, pair-same, enable-byte, enable-same}
 use Rattle.demands.proofs.Same.{enable-after}
 use Rattle.demands.proofs.StaysAllowed.{passes}
@@ -100,6 +102,7 @@ record Trip (a : Address) (s : State) : Type 0 where
   set : SetArgument
   sent : Says (a .set (replyTo a s)) (Set set)
   same : (t : State) → StateFits t → valuesAt (stateAfter (Set set) t) (a .holds) ≡ valuesAt s (a .holds)
+  others : (t : State) → OthersStay (a .holds) t (stateAfter (Set set) t)
   refuses : (t : State) → setAllowed (t .settings) (t .moving) set ≡ false → CanRefuse (a .holds)
   back : Settable a s → setAllowed (s .settings) (s .moving) set ≡ true
   still : stateAfter (Set set) s ≡ s
@@ -139,6 +142,7 @@ module _ (s : State) (ok : allowedState s ≡ true) (fits : StateFits s) where
         set = set.Value entry (kept entry);
         sent = one-sent name (n .0) entry e (kept entry) (kept-value s ok entry (n .1));
         same = λ t f. ap (λ x. x ∷ []) (value-after t (f .full) entry (kept entry) (n .1));
+        others = λ t. value-others t entry (kept entry);
         refuses = λ t p. set-refused (t .settings) (t .moving) entry (kept entry) p;
         back = λ settable. value-back s ok entry own (λ z. settable (ap (λ x. atEntry x ∷ []) z));
         still = value-same s entry;
@@ -158,6 +162,7 @@ module _ (s : State) (ok : allowedState s ≡ true) (fits : StateFits s) where
         set = set.Enable which v;
         sent = enable-sent name n which e v (enable-byte (s .enables) (fits .enables) which);
         same = λ t f. ap (λ x. x ∷ []) (enable-after s ok (fits .enables) t which);
+        others = λ t. enable-others t which v;
         refuses = λ t p. absurd (true≢false p);
         back = λ settable. refl;
         still = enable-same s ok (fits .enables) which;
@@ -179,6 +184,7 @@ module _ (s : State) (ok : allowedState s ≡ true) (fits : StateFits s) where
           sent = channel-sent name (n .0) base channels i some most (n .1) e (kept at) (n .2)
               (kept-value s ok at (n .2 .inside));
           same = λ t f. ap (λ x. x ∷ []) (value-after t (f .full) at (kept at) (n .2 .inside));
+          others = λ t. value-others t at (kept at);
           refuses = λ t p. set-refused (t .settings) (t .moving) at (kept at) p;
           back = λ settable. value-back s ok at own (λ z. settable (ap (λ x. atEntry x ∷ []) z));
           still = value-same s at;
@@ -206,6 +212,7 @@ module _ (s : State) (ok : allowedState s ≡ true) (fits : StateFits s) where
           same = λ t f.
               ap₂ (λ x y. x ∷ y ∷ []) (pair-first t (f .full) at (kept at) (kept (behind at)) past inside)
               (pair-second t (f .full) at (kept at) (kept (behind at)) past inside);
+          others = λ t. pair-others t at (kept at) (kept (behind at));
           refuses = λ t p. absurd (true≢false p);
           back = λ settable. refl;
           still = pair-same s at;
@@ -248,6 +255,7 @@ module _ (a : Address) (m : Module) (one two : List ℕ) (ready : Ready m one tw
           })
           (refusedBy NotAllowed (t .state) first second))) (t .queue))
       by true e = unfold afterOf firstOf drops in taken _ refl (trip .same (t .state) (other .fits .state))
+          (trip .others (t .state))
       by false e = unfold afterOf firstOf drops isNoRoom in refused (trip .refuses (t .state) e)
 
   back-call : Settable a (m .state) → (room : ℕ) →

@@ -2,11 +2,12 @@
 use Prim.Native.Nat.{ℕ, _+_, _%_, _^_, _<_}
 use mathlib.Core.Path.{_≡_, refl, sym, ap, _∙_}
 use mathlib.Core.Bool.{Bool, true, false, cond, not, _&&_, _||_, true≢false}
-use mathlib.Core.List.{List, [], _∷_}
+use mathlib.Core.List.{List, [], _∷_, List·Memᴰ·head, List·Memᴰ·tail}
 use native.Mathlib.Omega.{arith}
 use lib.Bits.{bitOr, or-zero-r}
 use lib.Dec.{leb, eqb}
-use lib.Seq.{set-getD}
+use lib.ListN.{set as set-at}
+use lib.Seq.{set-getD, getD-set-other}
 use borrow.Author.Tests.{eqb-true, eqb-false, eq-eqb, ne-eqb}
 use Rattle.number.proofs.Exact.{and-first, and-second}
 use Rattle.name.specs.declared.Register.{Register}
@@ -35,7 +36,8 @@ use Rattle.allow.specs.Allows.{keepsLimit, valueAllowed, setAllowed}
 use Rattle.change.specs.Change.{withPair, setIn, settingsAfter, storageAfter, externalAfter, movingAfter}
 use Rattle.change.specs.Change.{registersAfter, enablesSet, enablesAfter, changedBy, stateAfter}
 use Rattle.demands.specs.Representable.{EnablesFit, StateFits}
-use Rattle.demands.specs.Demand2.{Place, atEntry, atEnable, CanRefuse, frequency, harmonic, reference, constant}
+use Rattle.demands.specs.Demand2.{Place, atEntry, atEnable, OthersStay}
+use Rattle.demands.specs.Demand2.{CanRefuse, frequency, harmonic, reference, constant}
 use Rattle.demands.specs.Demand2.{end}
 
 -- ---- what a state asks of a value, by its entry
@@ -189,3 +191,52 @@ module _ (s : State) (ok : allowedState s ≡ true) (fit : EnablesFit (s .enable
       ≡ enableOf (s .enables) which
   unfolding stateAfter crossedFrom changedBy enablesAfter enablesSet
   enable-after t which = enable-set (t .enables) which
+
+-- ---- and values elsewhere stay
+
+module _ (t : State) where
+  -- an entry that neither the set nor the crossing after it names
+  pub value-others : (entry v : ℕ) → OthersStay (atEntry entry ∷ []) t (stateAfter (Set (set.Value entry v)) t)
+  unfolding stateAfter crossedFrom changedBy settingsAfter setIn enablesAfter enablesSet
+  value-others entry v (atEntry e) apart other =
+      getD-set-other (set-at (t .settings .values) entry v) oflt e _ 0 (λ z. other (ap atEntry z))
+      ∙ getD-set-other (t .settings .values) entry e v 0 (λ z. apart (List·Memᴰ·head (ap atEntry z)))
+  value-others entry v (atEnable which) apart other = refl
+
+  pub pair-others : (entry v w : ℕ) →
+      OthersStay (atEntry entry ∷ atEntry (behind entry) ∷ []) t (stateAfter (Set (set.Pair entry v w)) t)
+  unfolding stateAfter crossedFrom changedBy settingsAfter setIn withPair enablesAfter enablesSet
+  pair-others entry v w (atEntry e) apart other =
+      let first = set-at (t .settings .values) entry v in
+      getD-set-other (set-at first (behind entry) w) oflt e _ 0 (λ z. other (ap atEntry z))
+      ∙ getD-set-other first (behind entry) e w 0 (λ z. apart (List·Memᴰ·tail (List·Memᴰ·head (ap atEntry z))))
+      ∙ getD-set-other (t .settings .values) entry e v 0 (λ z. apart (List·Memᴰ·head (ap atEntry z)))
+  pair-others entry v w (atEnable which) apart other = refl
+
+  -- another enable
+  other-enable : (which r : Register) (x : ℕ) → (r ≡ which → ⊥) →
+      enableOf (withEnableByte (t .enables) which x) r ≡ enableOf (t .enables) r
+  unfolding enableOf withEnableByte
+  other-enable Standard Standard x n = absurd (n refl)
+  other-enable Standard Service x n = refl
+  other-enable Standard Lia x n = refl
+  other-enable Standard Errors x n = refl
+  other-enable Service Standard x n = refl
+  other-enable Service Service x n = absurd (n refl)
+  other-enable Service Lia x n = refl
+  other-enable Service Errors x n = refl
+  other-enable Lia Standard x n = refl
+  other-enable Lia Service x n = refl
+  other-enable Lia Lia x n = absurd (n refl)
+  other-enable Lia Errors x n = refl
+  other-enable Errors Standard x n = refl
+  other-enable Errors Service x n = refl
+  other-enable Errors Lia x n = refl
+  other-enable Errors Errors x n = absurd (n refl)
+
+  pub enable-others : (which : Register) (v : ℕ) →
+      OthersStay (atEnable which ∷ []) t (stateAfter (Set (set.Enable which v)) t)
+  unfolding stateAfter crossedFrom changedBy settingsAfter setIn enablesAfter enablesSet withEnable
+  enable-others which v (atEntry e) apart other =
+      getD-set-other (t .settings .values) oflt e _ 0 (λ z. other (ap atEntry z))
+  enable-others which v (atEnable r) apart other = other-enable which r _ (λ z. apart (List·Memᴰ·head (ap atEnable z)))
