@@ -84,8 +84,8 @@ pub record AllPass (capacity : ℕ) (lines : List (List ℕ)) : Type 0 where
   pub short : (n : ℕ) → Short lines n
   pub passed : (k : Course capacity lines) (n : ℕ) → answers k n ≡ answer.Passed
 
--- No, at a command and by another number than 7: line n of some course, which starts from a fresh module, answers that
--- place and number; in every course the lines before it answer 0, and line n refuses nothing at an earlier place.
+-- No, at a command and by another number than 7: in some course, which starts from a fresh module, line n is answered by
+-- this refusal at this place; whatever the course, the lines up to n pass and n has no refusal at an earlier place.
 pub record FirstRefused (capacity : ℕ) (lines : List (List ℕ)) (n place : ℕ) (r : Refusal) : Type 0 where
   pub witness : Course capacity lines
   pub fresh : witness .start ≡ freshWorld capacity
@@ -100,8 +100,8 @@ pub data NotBegun (lines : List (List ℕ)) : ℕ → ℕ → Type 0 where
       → ((m : ℕ) → m ≤ n → Short lines m) → NotBegun lines n place
   nothing : leadOf lines ≡ none → ((m : ℕ) → Short lines m) → NotBegun lines 1 1
 
--- 8, at place 0: line n is over 256 bytes; a first command on a line before it is *RST, and in every course all lines
--- before it answer 0
+-- 8, at place 0: line n is over 256 bytes; a first command on an earlier line is *RST, and the earlier lines pass,
+-- whatever the course
 pub record LongAt (capacity : ℕ) (lines : List (List ℕ)) (n place : ℕ) : Type 0 where
   pub nowhere : place ≡ 0
   pub long : tooLong (lineAt lines n) ≡ true

@@ -3,12 +3,12 @@
 --
 -- Document 01 names five hollow cores that this demand shuts out; each is shut out by a claim on the calls and is a
 -- wrong program under crates/ besides:
--- - one that refuses everything, by `asked` and `back` below; module/must-fail/refuses_everything,
--- - one that replies alike to all, by `sent`: a reply tells the values; reply_text/must-fail/replies_alike,
--- - one that accepts and keeps nothing, by `sent`; change/must-fail/keeps_nothing,
--- - one that does a line's first command and merely acknowledges the others, by Lines.antt;
+-- - whatever is sent is refused: by `asked` and `back` below; module/must-fail/refuses_everything,
+-- - every query has the same reply: by `sent`, since a reply tells the values; reply_text/must-fail/replies_alike,
+-- - a set is taken and no value kept: by `sent`; change/must-fail/keeps_nothing,
+-- - only the first command of a line is done, the later ones just counted: by Lines.antt;
 --   line/must-fail/later_commands_acknowledged,
--- - one whose SPTS? is invented, by Points.antt; reply_text/must-fail/points_invented.
+-- - SPTS? replies some number: by Points.antt; reply_text/must-fail/points_invented.
 use Prim.Native.Nat.{ℕ, _+_, _-_, _*_, _<_, _≤_}
 use mathlib.Core.Path.{_≡_}
 use mathlib.Core.Bool.{true}
