@@ -8,7 +8,8 @@ use denote.Enum.Declared.{tagOf}
 use types.Run.{OneOf, miss}
 use Rattle.text.specs.Parts.{added}
 use Rattle.reply.specs.declared.Sent.{Sent}
-use Rattle.reply.specs.Reply.{fitsIn, sentOf}
+use Rattle.reply.specs.Reply.{fitsIn}
+use Rattle.reply.specs.Parts.{sentOf}
 use Rattle.reply.proofs.Over.{over-none}
 use Rattle.reply.proofs.Sending.{Told, all-sent}
 use Rattle.command.specs.declared.QueryArgument.{QueryArgument}

@@ -1,7 +1,6 @@
 -- What an event does to the state and the traces: document 01, "Events, status, identity" and "Storing points".
 use Prim.Native.Nat.{ℕ, _*_, _^_}
 use mathlib.Core.Bool.{Bool, cond, _&&_}
-use mathlib.Core.Path.{_≡_}
 use mathlib.Core.List.{List}
 use lib.Dec.{eqb}
 use Rattle.refusal.specs.declared.Refusal.the-variants.{BadEvent}
@@ -25,13 +24,6 @@ pub record Occurred : Type 0 where
   pub outcome : Outcome
   pub one : List ℕ
   pub two : List ℕ
-
--- a result and two traces are those of an event
-pub record Occurs (e : Occurred) (r : Happened) (one two : List ℕ) : Type 0 where
-  pub state : r .state ≡ e .state
-  pub outcome : r .outcome ≡ e .outcome
-  pub first : one ≡ e .one
-  pub second : two ≡ e .two
 
 -- an event that stores nothing
 abbrev pub quiet : Happened → List ℕ → List ℕ → Occurred

@@ -1,2 +1,3 @@
--- What events do.
+-- What events do; Parts is what only inner functions are held to.
 pub mod Event
+pub mod Parts

@@ -1,6 +1,7 @@
 // Events: a new latest pair, a tick, a trigger, a measured frequency, raised bits.
 ghost use mathlib.Core.Path.{_≡_};
-ghost use Rattle.event.specs.Event.{Occurs, legalPair, pairTaken, takesFrequency, withExternal, measuredBy, bitsRaised, sampledIn, eventOf};
+ghost use Rattle.event.specs.Event.{legalPair, pairTaken, takesFrequency, withExternal, measuredBy, bitsRaised, sampledIn, eventOf};
+ghost use Rattle.event.specs.Parts.{Occurs};
 use refusal::Outcome;
 use refusal::Refusal;
 use state::Moving;

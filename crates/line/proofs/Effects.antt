@@ -12,7 +12,8 @@ use Rattle.state.specs.Storing.{storedIn}
 use Rattle.state.specs.declared.State.{State}
 use Rattle.allow.specs.Allows.{allowsOf}
 use Rattle.change.specs.Change.{stateAfter}
-use Rattle.reply.specs.Reply.{over, fitsIn, sentOf, sentBytes}
+use Rattle.reply.specs.Reply.{over, fitsIn, sentBytes}
+use Rattle.reply.specs.Parts.{sentOf}
 use Rattle.reply.proofs.Over.{over-none, sentBytes-length, sent-written}
 use Rattle.answer.specs.Reply.{replyOf}
 use Rattle.line.specs.Perform.{refusedBy, nothing, sampledBy, doneBy, performed}

@@ -21,7 +21,8 @@ use Rattle.queue.specs.declared.QueueStep.{QueueStep}
 use Rattle.queue.specs.declared.Ended.{Ended}
 use Rattle.queue.specs.declared.Ended.the-variants as ended
 use Rattle.reply.proofs.Over.{over-none}
-use Rattle.event.specs.Event.{Occurred, eventOf, Occurs}
+use Rattle.event.specs.Event.{Occurred, eventOf}
+use Rattle.event.specs.Parts.{Occurs}
 use Rattle.event.specs.declared.Event.{Event}
 use Rattle.event.specs.declared.Happened.{Happened}
 use Rattle.module.specs.Module.{guardOf}

@@ -12,7 +12,8 @@ use lib.ListN.{length, take, drop, getD, set, length-append, length-drop}
 use lib.Seq.{take-append-seam, drop-append-seam, drop-drop, paste-suc}
 use Rattle.point.specs.Bytes.{lowFirst, littleEndian}
 use Rattle.name.specs.declared.Form.{Form}
-use Rattle.reply.specs.Reply.{over, fitsIn, sentOf, sentBytes, pointBytes}
+use Rattle.reply.specs.Reply.{over, fitsIn, sentBytes, pointBytes}
+use Rattle.reply.specs.Parts.{sentOf}
 
 -- nothing is written: the room keeps its bytes
 pub over-none : (room : List ℕ) → over [] room ≡ room

@@ -9,8 +9,8 @@ use lib.Dec.{leb}
 use lib.ListN.{length, take, drop}
 use Rattle.name.specs.declared.Form.{Form}
 use Rattle.reply.specs.declared.Sent.{Sent}
-use Rattle.reply.specs.Reply.{over, fitsIn, sentOf, sentBytes, pointBytes}
-use Rattle.reply.specs.Parts.{slotOf}
+use Rattle.reply.specs.Reply.{over, fitsIn, sentBytes, pointBytes}
+use Rattle.reply.specs.Parts.{sentOf, slotOf}
 use Rattle.reply.proofs.Over.{pointBytes-length}
 use Rattle.reply.proofs.Points.{points-slot}
 

@@ -1,7 +1,16 @@
--- What only inner functions are held to: the slot at which sending begins. No promise of a public call speaks of it.
+-- What only inner functions are held to: what is told of a reply, and the slot at which sending begins. No promise of a
+-- public call speaks of these.
 use Prim.Native.Nat.{ℕ, _%_}
 use mathlib.Core.Bool.{cond}
+use mathlib.Core.List.{List}
 use lib.Dec.{eqb}
+use lib.ListN.{length}
+use Rattle.reply.specs.Reply.{fitsIn}
+use Rattle.reply.specs.declared.Sent.{Sent}
+
+-- what is told of a reply: whether it fits, and how many bytes were written
+abbrev pub sentOf : List ℕ → ℕ → Sent
+sentOf bytes room = record { fits = fitsIn bytes room; written = cond (fitsIn bytes room) (length bytes) 0 }
 
 -- the slot of a place, where places are counted on and on round the trace; 0 where there is no slot
 abbrev pub slotOf : ℕ → ℕ → ℕ

@@ -8,7 +8,6 @@ use Rattle.point.specs.Point.{floatOf}
 use Rattle.point.specs.Bytes.{littleEndian}
 use Rattle.name.specs.declared.Form.{Form}
 use Rattle.name.specs.declared.Form.the-variants.{Words, Floats}
-use Rattle.reply.specs.declared.Sent.{Sent}
 
 -- "each command of a line is lent the reply buffer from the bytes already written onward": the room's bytes after a reply are the reply's own bytes,
 -- then those that stood there
@@ -18,10 +17,6 @@ over bytes room = bytes ++ drop (length bytes) room
 -- "reply exceeds the room left": then it does not fit
 unfoldable pub fitsIn : List ℕ → ℕ → Bool
 fitsIn bytes room = leb (length bytes) room
-
--- what is told of a reply: whether it fits, and how many bytes were written
-abbrev pub sentOf : List ℕ → ℕ → Sent
-sentOf bytes room = record { fits = fitsIn bytes room; written = cond (fitsIn bytes room) (length bytes) 0 }
 
 -- the bytes that are written: "Where nothing is written, all lent memory keeps its bytes."
 unfoldable pub sentBytes : List ℕ → ℕ → List ℕ

@@ -5,8 +5,8 @@ ghost use Prim.Native.Nat.{_+_, _*_, _<_, _≤_};
 ghost use lib.ListN.{length, take, drop};
 ghost use Rattle.text.specs.Parts.{shown};
 ghost use Rattle.point.specs.Bytes.{littleEndian};
-ghost use Rattle.reply.specs.Reply.{over, sentOf, sentBytes, wordAt, formed, pointBytes};
-ghost use Rattle.reply.specs.Parts.{slotOf};
+ghost use Rattle.reply.specs.Reply.{over, sentBytes, wordAt, formed, pointBytes};
+ghost use Rattle.reply.specs.Parts.{sentOf, slotOf};
 use name::Form;
 use text::Text;
 
