@@ -1,4 +1,5 @@
--- Allowed states stay allowed, so that refusal 11 never meets a state that we made: document 01, refusal 11, and refusal 9 for the traces.
+-- Allowed states stay allowed, so that refusal 11 never meets a state that we made: document 01, refusal 11, and
+-- refusal 9 for the traces.
 use Prim.Native.Nat.{ℕ}
 use mathlib.Core.Bool.{Bool, true}
 use mathlib.Core.Path.{_≡_}
@@ -20,7 +21,8 @@ use Rattle.module.specs.declared.Module.{Module}
 use Rattle.module.specs.Start.{startOf}
 use Rattle.lockin.specs.Calls.{lineCall, byteCall, eventCall}
 
--- from a state and its traces to others: an allowed state stays allowed, what is fixed at start stays, and each trace keeps its length
+-- from a state and its traces to others: an allowed state stays allowed, what is fixed at start stays, and each trace
+-- keeps its length
 pub record Stays (before after : State) (one two first second : List ℕ) : Type 0 where
   pub allowed : allowedState before ≡ true → allowedState after ≡ true
   pub unit : after .unit ≡ before .unit
@@ -50,17 +52,21 @@ pub record Goes (before after : Module) (one two first second : List ℕ) : Type
 -- a module that the calls made: by a start, refused or not, and by lines, bytes and events, each with any traces
 pub data Made : Module → Type 0 where
   byStart : (serial port first second : ℕ) → Made (startOf serial port first second .after)
-  byLine : (room : ℕ) (bytes : List ℕ) (m : Module) (one two : List ℕ) → Made m → Made (lineCall room bytes m one two .after)
-  byByte : (room b : ℕ) (mark : Bool) (m : Module) (one two : List ℕ) → Made m → Made (byteCall room b mark m one two .after)
+  byLine : (room : ℕ) (bytes : List ℕ) (m : Module) (one two : List ℕ) → Made m →
+      Made (lineCall room bytes m one two .after)
+  byByte : (room b : ℕ) (mark : Bool) (m : Module) (one two : List ℕ) → Made m →
+      Made (byteCall room b mark m one two .after)
   byEvent : (event : Event) (m : Module) (one two : List ℕ) → Made m → Made (eventCall event m one two .after)
 
--- every start, refused ones too, gives an allowed module with the queue's 256 bytes, over traces that are not refused by 9 where it is not refused; every
--- line, byte and event leads on from there, so that no module that we made is refused by 11
+-- every start, refused ones too, gives an allowed module with the queue's 256 bytes, over traces that are not refused
+-- by 9 where it is not refused; every line, byte and event leads on from there, so that no module that we made is
+-- refused by 11
 pub record StaysAllowed : Type 0 where
   pub start : (serial port first second : ℕ) → allowedModule (startOf serial port first second .after) ≡ true
   pub started : (serial port first second : ℕ) → startOf serial port first second .outcome ≡ Done →
       guardOf (startOf serial port first second .after) first second ≡ Done
-  pub queued : (serial port first second : ℕ) → length (startOf serial port first second .after .queue .bytes) ≡ lineLimit
+  pub queued : (serial port first second : ℕ) →
+      length (startOf serial port first second .after .queue .bytes) ≡ lineLimit
   pub line : (room : ℕ) (bytes : List ℕ) (m : Module) (one two : List ℕ) →
       let c = lineCall room bytes m one two in
       Goes m (c .after) one two (c .one) (c .two)

@@ -12,7 +12,8 @@ use Rattle.line.specs.Perform.{Effect, commandOf}
 use Rattle.refusal.specs.declared.Answer.{Answer}
 use Rattle.refusal.specs.declared.Answer.the-variants.{Passed}
 
--- a line on its way: the state and both traces, the reply bytes so far, the answer so far, how many commands there were, and whether the rest is dropped
+-- a line on its way: the state and both traces, the reply bytes so far, the answer so far, how many commands there
+-- were, and whether the rest is dropped
 pub record Line : Type 0 where
   pub state : State
   pub one : List ℕ
@@ -41,7 +42,8 @@ afterOf l e =
 
 -- one more command, of which the text is told, in a room of so many bytes for the whole line
 unfoldable pub stepOf : ℕ → List ℕ → Line → Line
-stepOf room text l = afterOf l (commandOf (room - length (l .out)) (waits (l .out)) (parsedOf text) (l .state) (l .one) (l .two))
+stepOf room text l =
+    afterOf l (commandOf (room - length (l .out)) (waits (l .out)) (parsedOf text) (l .state) (l .one) (l .two))
 
 unfoldable pub runAll : ℕ → List (List ℕ) → Line → Line
 runAll room [] l = l

@@ -33,8 +33,8 @@ pub record Does (e : Effect) (r : Performed) (one two new old : List ℕ) : Type
 abbrev pub refusedWith : Refusal → State → Performed
 refusedWith r s = record { state = markedBy r s; written = 0; outcome = outcome.Refused r }
 
--- the commands that the code runs of a line of any length: those among its first bytes that count, as many as a line may
--- have, which are all where the line is not too long
+-- the commands that the code runs of a line of any length: those among its first bytes that count, as many as a line
+-- may have, which are all where the line is not too long
 abbrev pub textsRun : List ℕ → List (List ℕ)
 textsRun line = parts semicolon (take lineLimit (cleaned line))
 

@@ -1,4 +1,5 @@
--- What the public calls on a module do, for every input: document 01, "Lines and commands", "Events, status, identity" and "Refusal numbers".
+-- What the public calls on a module do, for every input: document 01, "Lines and commands", "Events, status, identity"
+-- and "Refusal numbers".
 use Prim.Native.Nat.{ℕ}
 use mathlib.Core.Bool.{Bool, cond}
 use mathlib.Core.Path.{_≡_}
@@ -50,12 +51,24 @@ lengthTold l = cond (l .dropped) 0 (length (l .out))
 -- a line that ran, and the queue after it
 abbrev pub ran : Line → Queue → Call
 ran l q =
-    record { after = record { state = l .state; queue = q }; one = l .one; two = l .two; out = l .out; told = toldOf (l .answer) (lengthTold l) }
+    record {
+      after = record { state = l .state; queue = q };
+      one = l .one;
+      two = l .two;
+      out = l .out;
+      told = toldOf (l .answer) (lengthTold l);
+    }
 
 -- 5: "line over 256 bytes": "INP set"
 abbrev pub tooLong : Module → Queue → List ℕ → List ℕ → Call
 tooLong m q one two =
-    record { after = record { state = markedBy LongLine (m .state); queue = q }; one = one; two = two; out = []; told = toldOf (answer.Refused LongLine 0) 0 }
+    record {
+      after = record { state = markedBy LongLine (m .state); queue = q };
+      one = one;
+      two = two;
+      out = [];
+      told = toldOf (answer.Refused LongLine 0) 0;
+    }
 
 -- "A line handed over whole uses no queue; too long, it is 5 and only sets INP."
 unfoldable pub wholeLine : ℕ → List ℕ → Module → List ℕ → List ℕ → Call
@@ -73,7 +86,13 @@ endedLine q room m one two = ran (lineOf room (queue.waitingBytes q) (m .state) 
 -- a byte: nothing ends, the line that waits ends and runs, or it is too long
 unfoldable pub fedCall : Ended → Queue → ℕ → Module → List ℕ → List ℕ → Call
 fedCall ended.Nothing q room m one two =
-    record { after = record { state = m .state; queue = q }; one = one; two = two; out = []; told = toldOf answer.Passed 0 }
+    record {
+      after = record { state = m .state; queue = q };
+      one = one;
+      two = two;
+      out = [];
+      told = toldOf answer.Passed 0;
+    }
 fedCall ended.Line q room m one two = endedLine q room m one two
 fedCall ended.TooLong q room m one two = tooLong m q one two
 
@@ -85,8 +104,8 @@ fedByte room b mark m one two =
 unfoldable pub byteCall : ℕ → ℕ → Bool → Module → List ℕ → List ℕ → Call
 byteCall room b mark m one two = guarded (guardOf m (length one) (length two)) (fedByte room b mark m one two) m one two
 
--- the code's answer r, the traces and the reply room after it are those of the call; old is the room before: "Where nothing is written, all lent
--- memory keeps its bytes."
+-- the code's answer r, the traces and the reply room after it are those of the call; old is the room before: "Where
+-- nothing is written, all lent memory keeps its bytes."
 pub record Answers (c : Call) (r : Called) (one two new old : List ℕ) : Type 0 where
   pub after : r .after ≡ c .after
   pub told : r .told ≡ c .told
@@ -104,14 +123,18 @@ pub record EventCall : Type 0 where
   pub outcome : Outcome
 
 abbrev pub occurred : Occurred → Queue → EventCall
-occurred e q = record { after = record { state = e .state; queue = q }; one = e .one; two = e .two; outcome = e .outcome }
+occurred e q =
+    record { after = record { state = e .state; queue = q }; one = e .one; two = e .two; outcome = e .outcome }
 
 unfoldable pub guardedEvent : Outcome → EventCall → Module → List ℕ → List ℕ → EventCall
 guardedEvent outcome.Done call m one two = call
-guardedEvent (outcome.Refused r) call m one two = record { after = m; one = one; two = two; outcome = outcome.Refused r }
+guardedEvent (outcome.Refused r) call m one two =
+    record { after = m; one = one; two = two; outcome = outcome.Refused r }
 
 unfoldable pub eventCall : Event → Module → List ℕ → List ℕ → EventCall
-eventCall e m one two = guardedEvent (guardOf m (length one) (length two)) (occurred (eventOf e (m .state) one two) (m .queue)) m one two
+eventCall e m one two =
+    guardedEvent (guardOf m (length one) (length two))
+    (occurred (eventOf e (m .state) one two) (m .queue)) m one two
 
 -- the code's answer r and the traces after it are those of the event's call
 pub record Happens (c : EventCall) (r : Taken) (one two : List ℕ) : Type 0 where
