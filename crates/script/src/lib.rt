@@ -11,10 +11,11 @@ ghost use Rattle.script.specs.Check.{linesVerdict, linesOf, capacityFits
 ghost use Rattle.script.specs.Parts.{Sweeps};
 use refusal::Answer;
 use refusal::Outcome;
-use refusal::Refusal;
+pub use refusal::Refusal;
 use settings::Settings;
 use two_courses::Both;
-use verdict::Verdict;
+pub use verdict::Verdict;
+pub use verdict::number_of;
 
 // A line's commands: the first refusal among them, and what is carried past them where there is none.
 pub struct Swept {
