@@ -33,8 +33,9 @@ same-length-3 c = search needs
 
 returns : tie.Need-returns
 returns c =
-    let cleaned = c .before .before .before .before .before .before .before .before .before .before .before .before .before .clean in
-    let ran = c .before .before .before .before .before .before .run .ensures in
+    let end = c .before .before .before .before .before .before in
+    let cleaned = end .before .before .before .before .before .before .before .clean in
+    let ran = end .run .ensures in
     rw (← cleaned .ensures .0) (rw (sub-zero (cleaned .result .len)) at ran)
 
 pub run-line-spec : {M : Type 1} → statement M
