@@ -6,22 +6,43 @@ use lib.Dec.{ltb, eqb}
 use lib.ListN.{take}
 use Rattle.clean.specs.declared.Cleaned.{Cleaned}
 
--- "A line has at most 256 bytes before its end"
+-- the most bytes of a line, its end aside
 abbrev pub lineLimit : ℕ
 lineLimit = 256
 
--- "space and CR are dropped wherever they stand"
+-- the byte " "
+abbrev pub space : ℕ
+space = 32
+
+-- the byte CR
+abbrev pub cr : ℕ
+cr = 13
+
+-- the letter "a"
+abbrev pub smallA : ℕ
+smallA = 97
+
+-- the letter "z"
+abbrev pub smallZ : ℕ
+smallZ = 122
+
+-- how far a capital letter is below its small one
+abbrev pub caseDistance : ℕ
+caseDistance = 32
+
+-- bytes dropped wherever they are: space and CR
 abbrev pub isDropped : ℕ → Bool
-isDropped b = eqb b 32 || eqb b 13
+isDropped b = eqb b space || eqb b cr
 
--- "case does not count": a to z are read as A to Z
+-- a small letter as its capital; any other byte as it is
 abbrev pub capital : ℕ → ℕ
-capital b = cond (ltb b 97) b (cond (ltb 122 b) b (b - 32))
+capital b = cond (ltb b smallA) b (cond (ltb smallZ b) b (b - caseDistance))
 
+-- a line's bytes that count
 unfoldable pub cleaned : List ℕ → List ℕ
 cleaned [] = []
 cleaned (b ∷ bs) = cond (isDropped b) (cleaned bs) (capital b ∷ cleaned bs)
 
--- what is kept of a line
+-- the line that a Cleaned holds
 abbrev pub shown : Cleaned → List ℕ
 shown c = take (c .len) (c .bytes)

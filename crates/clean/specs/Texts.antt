@@ -4,9 +4,10 @@ use mathlib.Core.List.{List}
 use Rattle.divide.specs.Divide.{parts}
 use Rattle.clean.specs.Clean.{cleaned}
 
--- "Commands are divided by ";""
+-- ";" stands between commands
 abbrev pub semicolon : ℕ
 semicolon = 59
 
+-- the commands' texts of a line, empty ones too
 abbrev pub textsOf : List ℕ → List (List ℕ)
 textsOf line = parts semicolon (cleaned line)

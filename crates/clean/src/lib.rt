@@ -7,12 +7,18 @@ ghost use Rattle.clean.specs.Clean.{lineLimit, isDropped, capital, clean
 // The most bytes that a line has before its end.
 pub const LINE: usize = 256;
 
-// The first len bytes are those of the line.
+// How far a capital letter is below its small one.
+const CASE: u8 = b'a' - b'A';
+
+// A line as its commands are read.
 pub struct Cleaned {
+    // The line, then bytes that do not count.
     pub bytes: [u8; LINE],
+    // How many of them are the line.
     pub len: usize,
 }
 
+// Whether a byte is dropped wherever it is: space and CR.
 fn is_dropped(b: u8) -> bool
     ensures { λ r. ⌜ r ≡ isDropped b ⌝ }
 {
@@ -22,6 +28,7 @@ fn is_dropped(b: u8) -> bool
     b == b'\r'
 }
 
+// A small letter as its capital; any other byte as it is.
 fn capital_of(b: u8) -> u8
     ensures { λ r. ⌜ r ≡ capital b ⌝ }
 {
@@ -31,10 +38,10 @@ fn capital_of(b: u8) -> u8
     if b'z' < b {
         return b;
     }
-    b - 32
+    b - CASE
 }
 
-// The line's bytes that count, of which a lawful line has at most LINE.
+// The bytes of a line that count, the first LINE of them: all of a line that is not too long.
 pub fn clean(line: &[u8]) -> Cleaned
     ensures { λ r. ⌜ (shown r ≡ take lineLimit (cleaned (now (line .entry)))) × (r .len ≤ lineLimit) ⌝ }
 {

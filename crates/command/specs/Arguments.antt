@@ -1,12 +1,14 @@
--- A command's arguments: document 01, "Lines and commands".
+-- A command's marks and arguments: document 01, "Lines and commands".
 use Prim.Native.Nat.{ℕ}
 use mathlib.Core.List.{List, [], _∷_}
 use Rattle.divide.specs.Divide.{parts}
+pub use Rattle.divide.specs.Ascii.{comma}
 
-abbrev pub comma : ℕ
-comma = 44
+-- what makes a command a query: "?"
+abbrev pub questionMark : ℕ
+questionMark = 63
 
--- "arguments divided by ",""; nothing after the name or the "?" is no argument
+-- the arguments' texts: divided by commas; no text after the name or the "?" is no argument
 unfoldable pub arguments : List ℕ → List (List ℕ)
 arguments [] = []
 arguments (b ∷ bs) = parts comma (b ∷ bs)

@@ -17,7 +17,7 @@ use Rattle.name.specs.declared.Register.{Register}
 use Rattle.name.specs.declared.Form.{Form}
 use Rattle.name.specs.declared.Meaning.{Meaning}
 use Rattle.name.specs.declared.Meaning.the-variants as meaning
-use Rattle.command.specs.Arguments.{arguments}
+use Rattle.command.specs.Arguments.{questionMark, arguments}
 use Rattle.command.specs.declared.SetArgument.the-variants as set
 use Rattle.command.specs.declared.QueryArgument.the-variants as query
 use Rattle.command.specs.declared.Kind.{Kind}
@@ -25,30 +25,33 @@ use Rattle.command.specs.declared.Kind.the-variants.{Set, Query, Act}
 use Rattle.command.specs.declared.Parsed.{Parsed}
 use Rattle.command.specs.declared.Parsed.the-variants.{Empty, Taken, Refused}
 
+-- a text read as a command of this kind
 abbrev pub taken : Kind → Parsed
 taken k = Taken (record { kind = k })
 
--- refusal 1: "name that is no command here, wrong form, count or number text, "?" missing or unwanted"
+-- refusal 1: no such name, the name in another form, another count of arguments, or an argument that is no number
 abbrev pub malformed : Parsed
 malformed = Refused Malformed
 
--- refusal 2: "a value out of range or not whole"
+-- an argument's value, on which the rest goes on; refusal 2 where the range does not take it
 abbrev pub with : Argument → (ℕ → Parsed) → Parsed
 with (argument.Value v) k = k v
 with argument.Refused k = Refused OutOfRange
 
--- so many arguments, each a number's text; only then are their values looked at, left to right
+-- exactly one argument, a number's text, on which the rest goes on
 unfoldable pub one : (List ℕ → Parsed) → List (List ℕ) → Parsed
 one k [] = malformed
 one k (a ∷ []) = cond (isNumber a) (k a) malformed
 one k (a ∷ b ∷ more) = malformed
 
+-- exactly two arguments, each a number's text; only then are their values looked at, left to right
 unfoldable pub two : (List ℕ → List ℕ → Parsed) → List (List ℕ) → Parsed
 two k [] = malformed
 two k (a ∷ []) = malformed
 two k (a ∷ b ∷ []) = cond (isNumber a && isNumber b) (k a b) malformed
 two k (a ∷ b ∷ c ∷ more) = malformed
 
+-- exactly three arguments, likewise
 unfoldable pub three : (List ℕ → List ℕ → List ℕ → Parsed) → List (List ℕ) → Parsed
 three k [] = malformed
 three k (a ∷ []) = malformed
@@ -56,38 +59,42 @@ three k (a ∷ b ∷ []) = malformed
 three k (a ∷ b ∷ c ∷ []) = cond (isNumber a && (isNumber b && isNumber c)) (k a b c) malformed
 three k (a ∷ b ∷ c ∷ d ∷ more) = malformed
 
--- "A whole-number argument must be whole in value"
+-- the range of a whole-number argument: 5.0 is whole, 5.4 is refused
 abbrev pub wholeRange : ℕ → ℕ → Range
 wholeRange low high = record { bias = 0; low = low; high = high; step = 1; whole = true }
 
+-- a number's text as a whole-number argument from low to high
 abbrev pub wholeOf : ℕ → ℕ → List ℕ → Argument
 wholeOf low high a = argumentOf (wholeRange low high) (exactOf 0 a)
 
--- the highest bit of a register, the highest value of one, and how many traces there are
+-- the number of a register's highest bit
 abbrev pub bitMost : ℕ
 bitMost = 7
 
+-- the highest value of a register, all eight bits set
 abbrev pub registerMost : ℕ
-registerMost = 255
+registerMost = 0xFF
 
+-- how many traces there are
 abbrev pub traces : ℕ
 traces = 2
 
--- a setting without channels: "PHAS x", "FMOD i" ..
+-- a setting without channels, as PHAS x or FMOD i
 unfoldable pub setSetting : ℕ → List (List ℕ) → Parsed
 setSetting entry = one λ x. with (settingOf entry x) λ v. taken (Set (set.Value entry v))
 
--- "FPOP i,j", "AUXV i,x": i picks the channel
+-- one channel's setting, as FPOP i,j or AUXV i,x: i is the channel
 unfoldable pub setChannel : ℕ → ℕ → List (List ℕ) → Parsed
 setChannel base channels =
     two λ i x. with (wholeOf 1 channels i) λ n. with (settingOf base x) λ v. taken (Set (set.Value (base + (n - 1)) v))
 
--- "DDEF i,j,k", "OEXP i,x,j"
+-- a channel's two settings, DDEF i,j,k and OEXP i,x,j: i is the channel
 unfoldable pub setChannelPair : ℕ → ℕ → List (List ℕ) → Parsed
 setChannelPair base channels =
-    three λ i x y. with (wholeOf 1 channels i) λ n. with (settingOf base x) λ v. with (settingOf (base + 1) y) λ w. taken (Set (set.Pair (base + 2 * (n - 1)) v w))
+    three λ i x y. with (wholeOf 1 channels i) λ n.
+    with (settingOf base x) λ v. with (settingOf (base + 1) y) λ w. taken (Set (set.Pair (base + 2 * (n - 1)) v w))
 
--- "*ESE, *SRE, LIAE and ERRE take one value 0-255, or bit 0-7 and 0 or 1"
+-- an enable, *ESE, *SRE, LIAE or ERRE: its value from 0 to 255, or a bit from 0 to 7 and what that becomes
 unfoldable pub setEnable : Register → List (List ℕ) → Parsed
 setEnable r [] = malformed
 setEnable r (v ∷ []) = one (λ v. with (wholeOf 0 registerMost v) λ x. taken (Set (set.Enable r x))) (v ∷ [])
@@ -95,30 +102,32 @@ setEnable r (i ∷ v ∷ more) =
     two (λ i v. with (wholeOf 0 bitMost i) λ b. with (wholeOf 0 1 v) λ x. taken (Set (set.EnableBit r b x)))
     (i ∷ v ∷ more)
 
--- "Where i picks a channel the query takes only i"
+-- the query of one channel's setting: the channel is its only argument
 unfoldable pub queryChannel : ℕ → ℕ → List (List ℕ) → Parsed
 queryChannel base channels = one λ i. with (wholeOf 1 channels i) λ n. taken (Query (query.Value (base + (n - 1))))
 
+-- the query of a channel's two settings: the channel is its only argument
 unfoldable pub queryChannelPair : ℕ → ℕ → List (List ℕ) → Parsed
-queryChannelPair base channels = one λ i. with (wholeOf 1 channels i) λ n. taken (Query (query.Pair (base + 2 * (n - 1))))
+queryChannelPair base channels =
+    one λ i. with (wholeOf 1 channels i) λ n. taken (Query (query.Pair (base + 2 * (n - 1))))
 
--- "queries take nothing or a bit"
+-- the query of an enable: all of it, or one bit
 unfoldable pub queryEnable : Register → List (List ℕ) → Parsed
 queryEnable r [] = taken (Query (query.Enable r))
 queryEnable r (i ∷ more) = one (λ i. with (wholeOf 0 bitMost i) λ b. taken (Query (query.EnableBit r b))) (i ∷ more)
 
--- "*ESR?, LIAS? and ERRS? ..; with an argument i (0-7) only bit i", "*STB? takes nothing or a bit"
+-- the query of an event register or of the status byte: all of it, or one bit
 unfoldable pub queryStatus : Register → List (List ℕ) → Parsed
 queryStatus r [] = taken (Query (query.Status r))
 queryStatus r (i ∷ more) = one (λ i. with (wholeOf 0 bitMost i) λ b. taken (Query (query.StatusBit r b))) (i ∷ more)
 
--- "TRCL? i,j,k", "i is 1-2, j 0-16383, k 1-16383"
+-- TRCL? i,j,k and TRCB? i,j,k: trace, first bin, count of points
 unfoldable pub queryTrace : Form → List (List ℕ) → Parsed
 queryTrace form =
     three λ i j k. with (wholeOf 1 traces i) λ t. with (wholeOf 0 capacityMost j) λ b.
     with (wholeOf capacityLeast capacityMost k) λ n. taken (Query (query.Trace form t b n))
 
--- no argument
+-- a command that takes no argument
 unfoldable pub alone : Kind → List (List ℕ) → Parsed
 alone k [] = taken k
 alone k (a ∷ more) = malformed
@@ -149,10 +158,12 @@ queryWith (meaning.Trace form) args = queryTrace form args
 queryWith (meaning.Act a) args = malformed
 queryWith meaning.Unknown args = malformed
 
--- "A command is four letters, or "*" and three, then "?" for a query, then arguments divided by ","": the text of one command, cleaned
+-- one command, its spaces dropped and its letters made capitals: a name of four bytes, "?" for a query, and arguments
 unfoldable pub parsedOf : List ℕ → Parsed
 parsedOf [] = Empty
 parsedOf (b ∷ bs) =
     let s = b ∷ bs in
     cond (ltb (length s) 4) malformed
-    (cond (begins 63 (drop 4 s)) (queryWith (meaningOf (take 4 s)) (arguments (drop 5 s))) (setWith (meaningOf (take 4 s)) (arguments (drop 4 s))))
+    (cond (begins questionMark (drop 4 s))
+    (queryWith (meaningOf (take 4 s)) (arguments (drop 5 s)))
+    (setWith (meaningOf (take 4 s)) (arguments (drop 4 s))))

@@ -6,8 +6,12 @@ ghost use Rattle.name.specs.Parts.{word};
 ghost use Rattle.number.specs.Parts.{takenOf};
 ghost use Rattle.command.specs.Arguments.{arguments};
 ghost use Rattle.command.specs.Parts.{aloneOf, twoOf};
-ghost use Rattle.command.specs.Parsed.{taken, parsedOf, wholeRange, setWith, queryWith, setSetting, setChannel, setChannelPair, setEnable, queryChannel, queryChannelPair, queryEnable, queryStatus, queryTrace, alone};
-ghost use Rattle.command.specs.Parts.{readOne, readTwo, readThree, settingTaken, channelTaken, pairTaken, enableTaken, enableBitTaken, channelAsked, pairAsked, enableBitAsked, statusBitAsked, traceAsked};
+ghost use Rattle.command.specs.Parsed.{taken, parsedOf, wholeRange, setWith, queryWith, alone};
+ghost use Rattle.command.specs.Parsed.{setSetting, setChannel, setChannelPair, setEnable};
+ghost use Rattle.command.specs.Parsed.{queryChannel, queryChannelPair, queryEnable, queryStatus, queryTrace};
+ghost use Rattle.command.specs.Parts.{readOne, readTwo, readThree, traceAsked};
+ghost use Rattle.command.specs.Parts.{settingTaken, channelTaken, pairTaken, enableTaken, enableBitTaken};
+ghost use Rattle.command.specs.Parts.{channelAsked, pairAsked, enableBitAsked, statusBitAsked};
 use name::Action;
 use name::Form;
 use name::Meaning;
@@ -19,65 +23,96 @@ use number::Reading;
 use refusal::Refusal;
 use settings::Settings;
 
-// The highest bit of a register, the highest value of one, and how many traces there are.
+// The number of a register's highest bit.
 const BIT_MOST: u32 = 7;
 
-const REGISTER_MOST: u32 = 255;
+// The highest value of a register, all eight bits set.
+const REGISTER_MOST: u32 = 0xFF;
 
+// How many traces there are.
 const TRACES: u32 = 2;
 
-// The arguments of a set. A setting is told by its entry in the settings table, its value as it is kept.
+// The arguments of a set: a setting by its entry in the settings table, a value in the units of its entry, bias added.
 pub enum SetArgument {
+    // One setting's value: entry, value.
     Value(usize, u32),
+    // Two values of one channel, at neighbouring entries: first entry, first value, second value.
     Pair(usize, u32, u32),
+    // All bits of an enable register: register, value.
     Enable(Register, u32),
+    // One bit of an enable register: register, bit, 0 or 1.
     EnableBit(Register, u32, u32),
 }
 
 // The arguments of a query. Traces and bins are numbered as in the command.
 pub enum QueryArgument {
+    // One setting's value: entry.
     Value(usize),
+    // Two values of one channel, at neighbouring entries: first entry.
     Pair(usize),
+    // All bits of an enable register.
     Enable(Register),
+    // One bit of an enable register: register, bit.
     EnableBit(Register, u32),
+    // All bits of an event register or of the status byte.
     Status(Register),
+    // One bit of an event register or of the status byte: register, bit.
     StatusBit(Register, u32),
+    // *IDN?: what the module is, and its serial number.
     Identity,
+    // SPTS?: how many points are held.
     Points,
+    // TRCL? and TRCB?: form, trace from 1, first bin, count of points.
     Trace(Form, u32, u32, u32),
 }
 
+// What kind of command it is, with its arguments.
 pub enum Kind {
+    // Sets a value.
     Set(SetArgument),
+    // Asks for a reply.
     Query(QueryArgument),
+    // Acts without arguments, as STRT.
     Act(Action),
 }
 
+// A command that was read and whose arguments are in range.
 pub struct Command {
+    // Set, query or action, with the arguments.
     pub kind: Kind,
 }
 
 // What a command's text is read as.
 pub enum Parsed {
+    // No byte: does nothing, but counts as a place of its line.
     Empty,
+    // A command.
     Taken(Command),
+    // No command: refusal 1 or 2.
     Refused(Refusal),
 }
 
-// Two arguments, divided at a place.
+// Whether a text is two arguments.
 enum Two {
+    // Two, with the comma at this offset.
     At(usize),
+    // Fewer or more.
     Not,
 }
 
-// Two arguments that are numbers, and three.
+// Whether a text is two arguments that are numbers.
 enum TwoNumbers {
+    // Their values, in order.
     Numbers(Quantity, Quantity),
+    // Another count, or a text that is no number.
     Not,
 }
 
+// Whether a text is three arguments that are numbers.
 enum ThreeNumbers {
+    // Their values, in order.
     Numbers(Quantity, Quantity, Quantity),
+    // Another count, or a text that is no number.
     Not,
 }
 
@@ -92,6 +127,7 @@ fn is_alone(args: &[u8]) -> bool
     comma == args.len()
 }
 
+// Where the comma is, if the text is two arguments.
 fn two_of(args: &[u8]) -> Two
     ensures { λ r. ⌜ r ≡ twoOf (now (args .entry)) ⌝ }
 {
@@ -108,7 +144,7 @@ fn two_of(args: &[u8]) -> Two
     Two::Not
 }
 
-// One argument as a number in units of which 10 to the power of decimals make one.
+// One argument as a number, in units of 10^-decimals.
 fn read_one(args: &[u8], decimals: u8) -> Reading
     ensures { λ r. ⌜ r ≡ readOne decimals (arguments (now (args .entry))) ⌝ }
 {
@@ -119,6 +155,7 @@ fn read_one(args: &[u8], decimals: u8) -> Reading
     Reading::NotNumber
 }
 
+// Two arguments as numbers, in units by their decimals `first` and `second`.
 fn read_two(args: &[u8], first: u8, second: u8) -> TwoNumbers
     ensures { λ r. ⌜ r ≡ readTwo first second (arguments (now (args .entry))) ⌝ }
 {
@@ -135,6 +172,7 @@ fn read_two(args: &[u8], first: u8, second: u8) -> TwoNumbers
     TwoNumbers::Numbers(a, b)
 }
 
+// Three arguments as numbers, in units by their decimals `first`, `second` and `third`.
 fn read_three(args: &[u8], first: u8, second: u8, third: u8) -> ThreeNumbers
     ensures { λ r. ⌜ r ≡ readThree first second third (arguments (now (args .entry))) ⌝ }
 {
@@ -152,13 +190,14 @@ fn read_three(args: &[u8], first: u8, second: u8, third: u8) -> ThreeNumbers
     ThreeNumbers::Not
 }
 
+// A text read as a command of this kind.
 fn taken_as(kind: Kind) -> Parsed
     ensures { λ r. ⌜ r ≡ taken kind ⌝ }
 {
     Parsed::Taken(Command { kind })
 }
 
-// A whole number between two ends.
+// A number as a whole-number argument from `low` to `high`.
 fn whole_of(q: Quantity, low: u32, high: u32) -> Argument
     ensures { λ r. ⌜ r ≡ takenOf (wholeRange low high) q ⌝ }
 {
@@ -172,7 +211,7 @@ fn whole_of(q: Quantity, low: u32, high: u32) -> Argument
     number::take(q, range)
 }
 
-// The entry of a channel, counted from 1, with one setting for each channel and with two.
+// The entry of a channel, counted from 1, where each channel has one setting and channel 1's is at `base`.
 fn channel_entry(base: u8, channel: u32) -> usize
     ensures { λ r. ⌜ r ≡ base + (channel - 1) ⌝ }
 {
@@ -183,6 +222,7 @@ fn channel_entry(base: u8, channel: u32) -> usize
     first + (channel - 1) as usize
 }
 
+// The first entry of a channel, counted from 1, where each channel has two settings and channel 1's begin at `base`.
 fn pair_entry(base: u8, channel: u32) -> usize
     ensures { λ r. ⌜ r ≡ base + 2 * (channel - 1) ⌝ }
 {
@@ -193,6 +233,7 @@ fn pair_entry(base: u8, channel: u32) -> usize
     first + 2 * (channel - 1) as usize
 }
 
+// Sets a setting without channels, if the number is in its range.
 fn take_setting(entry: usize, x: Quantity) -> Parsed
     ensures { λ r. ⌜ r ≡ settingTaken entry x ⌝ }
 {
@@ -202,6 +243,7 @@ fn take_setting(entry: usize, x: Quantity) -> Parsed
     taken_as(Kind::Set(SetArgument::Value(entry, value)))
 }
 
+// Sets channel `i` of a setting, if channel and value are in range.
 fn take_channel(base: u8, channels: u8, i: Quantity, x: Quantity) -> Parsed
     ensures { λ r. ⌜ r ≡ channelTaken base channels i x ⌝ }
 {
@@ -214,6 +256,7 @@ fn take_channel(base: u8, channels: u8, i: Quantity, x: Quantity) -> Parsed
     taken_as(Kind::Set(SetArgument::Value(channel_entry(base, channel), value)))
 }
 
+// Sets the two values of channel `i`, if channel and values are in range.
 fn take_pair(base: u8, channels: u8, i: Quantity, x: Quantity, y: Quantity) -> Parsed
     ensures { λ r. ⌜ r ≡ pairTaken base channels i x y ⌝ }
 {
@@ -230,6 +273,7 @@ fn take_pair(base: u8, channels: u8, i: Quantity, x: Quantity, y: Quantity) -> P
     taken_as(Kind::Set(SetArgument::Pair(pair_entry(base, channel), value, other)))
 }
 
+// Sets all bits of an enable register, if the value is in range.
 fn take_enable(register: Register, v: Quantity) -> Parsed
     ensures { λ r. ⌜ r ≡ enableTaken register v ⌝ }
 {
@@ -239,6 +283,7 @@ fn take_enable(register: Register, v: Quantity) -> Parsed
     taken_as(Kind::Set(SetArgument::Enable(register, value)))
 }
 
+// Sets bit `i` of an enable register to `v`, if both are in range.
 fn take_enable_bit(register: Register, i: Quantity, v: Quantity) -> Parsed
     ensures { λ r. ⌜ r ≡ enableBitTaken register i v ⌝ }
 {
@@ -251,6 +296,7 @@ fn take_enable_bit(register: Register, i: Quantity, v: Quantity) -> Parsed
     taken_as(Kind::Set(SetArgument::EnableBit(register, bit, value)))
 }
 
+// Asks for channel `i` of a setting, if there is one.
 fn ask_channel(base: u8, channels: u8, i: Quantity) -> Parsed
     ensures { λ r. ⌜ r ≡ channelAsked base channels i ⌝ }
 {
@@ -260,6 +306,7 @@ fn ask_channel(base: u8, channels: u8, i: Quantity) -> Parsed
     taken_as(Kind::Query(QueryArgument::Value(channel_entry(base, channel))))
 }
 
+// Asks for the two values of channel `i`, if there is one.
 fn ask_pair(base: u8, channels: u8, i: Quantity) -> Parsed
     ensures { λ r. ⌜ r ≡ pairAsked base channels i ⌝ }
 {
@@ -269,6 +316,7 @@ fn ask_pair(base: u8, channels: u8, i: Quantity) -> Parsed
     taken_as(Kind::Query(QueryArgument::Pair(pair_entry(base, channel))))
 }
 
+// Asks for bit `i` of an enable register, if there is one.
 fn ask_enable_bit(register: Register, i: Quantity) -> Parsed
     ensures { λ r. ⌜ r ≡ enableBitAsked register i ⌝ }
 {
@@ -278,6 +326,7 @@ fn ask_enable_bit(register: Register, i: Quantity) -> Parsed
     taken_as(Kind::Query(QueryArgument::EnableBit(register, bit)))
 }
 
+// Asks for bit `i` of an event register or of the status byte, if there is one.
 fn ask_status_bit(register: Register, i: Quantity) -> Parsed
     ensures { λ r. ⌜ r ≡ statusBitAsked register i ⌝ }
 {
@@ -287,6 +336,7 @@ fn ask_status_bit(register: Register, i: Quantity) -> Parsed
     taken_as(Kind::Query(QueryArgument::StatusBit(register, bit)))
 }
 
+// Asks for `k` points of trace `i` from bin `j` on, if each is in range.
 fn ask_trace(form: Form, i: Quantity, j: Quantity, k: Quantity) -> Parsed
     ensures { λ r. ⌜ r ≡ traceAsked form i j k ⌝ }
 {
@@ -303,6 +353,7 @@ fn ask_trace(form: Form, i: Quantity, j: Quantity, k: Quantity) -> Parsed
     taken_as(Kind::Query(QueryArgument::Trace(form, trace, bin, count)))
 }
 
+// A set of a setting without channels, as PHAS x: reads its one argument.
 fn set_setting(entry: usize, args: &[u8]) -> Parsed
     ensures { λ r. ⌜ r ≡ setSetting entry (arguments (now (args .entry))) ⌝ }
 {
@@ -313,6 +364,7 @@ fn set_setting(entry: usize, args: &[u8]) -> Parsed
     take_setting(entry, x)
 }
 
+// A set of one channel's setting, as AUXV i,x: reads its two arguments.
 fn set_channel(base: u8, channels: u8, args: &[u8]) -> Parsed
     ensures { λ r. ⌜ r ≡ setChannel base channels (arguments (now (args .entry))) ⌝ }
 {
@@ -323,6 +375,7 @@ fn set_channel(base: u8, channels: u8, args: &[u8]) -> Parsed
     take_channel(base, channels, i, x)
 }
 
+// A set of a channel's two settings, as OEXP i,x,j: reads its three arguments.
 fn set_pair(base: u8, channels: u8, args: &[u8]) -> Parsed
     ensures { λ r. ⌜ r ≡ setChannelPair base channels (arguments (now (args .entry))) ⌝ }
 {
@@ -335,6 +388,7 @@ fn set_pair(base: u8, channels: u8, args: &[u8]) -> Parsed
     take_pair(base, channels, i, x, y)
 }
 
+// A set of an enable register, as *ESE: reads a value, or a bit and its value.
 fn set_enable(register: Register, args: &[u8]) -> Parsed
     ensures { λ r. ⌜ r ≡ setEnable register (arguments (now (args .entry))) ⌝ }
 {
@@ -351,6 +405,7 @@ fn set_enable(register: Register, args: &[u8]) -> Parsed
     take_enable_bit(register, i, v)
 }
 
+// A query of one channel's setting, as AUXV? i: reads the channel.
 fn query_channel(base: u8, channels: u8, args: &[u8]) -> Parsed
     ensures { λ r. ⌜ r ≡ queryChannel base channels (arguments (now (args .entry))) ⌝ }
 {
@@ -360,6 +415,7 @@ fn query_channel(base: u8, channels: u8, args: &[u8]) -> Parsed
     ask_channel(base, channels, i)
 }
 
+// A query of a channel's two settings, as OEXP? i: reads the channel.
 fn query_pair(base: u8, channels: u8, args: &[u8]) -> Parsed
     ensures { λ r. ⌜ r ≡ queryChannelPair base channels (arguments (now (args .entry))) ⌝ }
 {
@@ -369,6 +425,7 @@ fn query_pair(base: u8, channels: u8, args: &[u8]) -> Parsed
     ask_pair(base, channels, i)
 }
 
+// A query of an enable register, as *ESE?: reads nothing or a bit.
 fn query_enable(register: Register, args: &[u8]) -> Parsed
     ensures { λ r. ⌜ r ≡ queryEnable register (arguments (now (args .entry))) ⌝ }
 {
@@ -381,6 +438,7 @@ fn query_enable(register: Register, args: &[u8]) -> Parsed
     ask_enable_bit(register, i)
 }
 
+// A query of an event register or of the status byte, as *ESR?: reads nothing or a bit.
 fn query_status(register: Register, args: &[u8]) -> Parsed
     ensures { λ r. ⌜ r ≡ queryStatus register (arguments (now (args .entry))) ⌝ }
 {
@@ -393,6 +451,7 @@ fn query_status(register: Register, args: &[u8]) -> Parsed
     ask_status_bit(register, i)
 }
 
+// A query of a trace, TRCL? or TRCB?: reads trace, first bin and count.
 fn query_trace(form: Form, args: &[u8]) -> Parsed
     ensures { λ r. ⌜ r ≡ queryTrace form (arguments (now (args .entry))) ⌝ }
 {
@@ -402,6 +461,7 @@ fn query_trace(form: Form, args: &[u8]) -> Parsed
     ask_trace(form, i, j, k)
 }
 
+// A command that takes no argument: refused where there is one.
 fn taken_alone(kind: Kind, args: &[u8]) -> Parsed
     ensures { λ r. ⌜ r ≡ alone kind (arguments (now (args .entry))) ⌝ }
 {
@@ -411,7 +471,7 @@ fn taken_alone(kind: Kind, args: &[u8]) -> Parsed
     Parsed::Refused(Refusal::Malformed)
 }
 
-// A name's meaning and the text behind the name, for a set or an action and for a query.
+// A set or an action: what the name means, and the arguments' text after it.
 fn set_with(meaning: Meaning, args: &[u8]) -> Parsed
     ensures { λ r. ⌜ r ≡ setWith meaning (arguments (now (args .entry))) ⌝ }
 {
@@ -429,6 +489,7 @@ fn set_with(meaning: Meaning, args: &[u8]) -> Parsed
     }
 }
 
+// A query: what the name means, and the arguments' text after "?".
 fn query_with(meaning: Meaning, args: &[u8]) -> Parsed
     ensures { λ r. ⌜ r ≡ queryWith meaning (arguments (now (args .entry))) ⌝ }
 {
@@ -446,17 +507,18 @@ fn query_with(meaning: Meaning, args: &[u8]) -> Parsed
     }
 }
 
-// The first four bytes as one number.
+// The first four bytes, a command's name, as one number: the first byte is the highest.
 fn word_of(text: &[u8]) -> u32
     requires { ⌜ 4 ≤ length (now text) ⌝ }
     ensures { λ r. ⌜ r ≡ word (take 4 (now (text .entry))) ⌝ }
 {
-    let high = text[0] as u32 * 256 + text[1] as u32;
-    let low = text[2] as u32 * 256 + text[3] as u32;
-    high * 65536 + low
+    let high = text[0] as u32 * 0x100 + text[1] as u32;
+    let low = text[2] as u32 * 0x100 + text[3] as u32;
+    high * 0x1_0000 + low
 }
 
-// The text of one command, cleaned.
+// One command read from its text, which has no space and no small letter any more: its name, "?" for a query, and its
+// arguments.
 pub fn parse(text: &[u8]) -> Parsed
     ensures { λ r. ⌜ r ≡ parsedOf (now (text .entry)) ⌝ }
 {

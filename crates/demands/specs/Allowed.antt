@@ -58,9 +58,9 @@ pub data Made : Module → Type 0 where
       Made (byteCall room b mark m one two .after)
   byEvent : (event : Event) (m : Module) (one two : List ℕ) → Made m → Made (eventCall event m one two .after)
 
--- every start, refused ones too, gives an allowed module with the queue's 256 bytes, over traces that are not refused
--- by 9 where it is not refused; every line, byte and event leads on from there, so that no module that we made is
--- refused by 11
+-- every start, refused ones too, gives an allowed module whose queue has all its bytes; where the start is not refused,
+-- 9 does not refuse the traces either; every line, byte and event leads on from there, so that no module that we made
+-- is refused by 11
 pub record StaysAllowed : Type 0 where
   pub start : (serial port first second : ℕ) → allowedModule (startOf serial port first second .after) ≡ true
   pub started : (serial port first second : ℕ) → startOf serial port first second .outcome ≡ Done →

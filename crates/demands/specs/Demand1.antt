@@ -68,7 +68,7 @@ pub record RefusedCommand (refusal : Refusal) (s : State) (one two : List ℕ) (
   pub second : e .two ≡ two
   pub reply : e .out ≡ []
 
--- what a command does as the next one of a line that is on its way
+-- what a command does as the next one of a line
 abbrev pub effectIn : ℕ → List ℕ → Line → Effect
 effectIn room text l = commandOf (room - length (l .out)) (waits (l .out)) (parsedOf text) (l .state) (l .one) (l .two)
 
@@ -104,15 +104,15 @@ pub data Continues (room : ℕ) (text : List ℕ) (l : Line) : Type 0 where
   accepted : AcceptedStep room text l → Continues room text l
   refused : (refusal : Refusal) → RefusedStep refusal room text l → refusal ≢ NoRoom → Continues room text l
 
--- commands one after the other, each a step as told: each starts from the line as the one before it left it
+-- commands one after the other, each a Step: each starts from the line as the one before it left it
 pub data OneByOne (Step : List ℕ → Line → Type 0) (room : ℕ) : List (List ℕ) → Line → Line → Type 0 where
   none : (l : Line) → OneByOne Step room [] l l
   next : (text : List ℕ) (more : List (List ℕ)) (l end : Line) → Step text l →
       OneByOne Step room more (stepOf room text l) end → OneByOne Step room (text ∷ more) l end
 
--- the commands of a line from its start to its end, and the length told: every command has its turn, and the length of
--- the reply is told; or one is refused by 4, which drops those after it: the bytes written before it stay (`reply` of
--- RefusedStep), and the length told is 0
+-- the commands of a line from its start to its end, and the length reported: every command has its turn, and the length
+-- is that of the reply; or one is refused by 4, which drops those after it: the bytes written before it stay (`reply`
+-- of RefusedStep), and the length is 0
 pub data Commands (room : ℕ) (start : Line) : List (List ℕ) → Line → ℕ → Type 0 where
   whole : (texts : List (List ℕ)) (end : Line) →
       OneByOne (Continues room) room texts start end →
@@ -152,7 +152,7 @@ pub record RunsLine (room : ℕ) (bytes : List ℕ) (m : Module) (q : Queue) (on
   pub placed : (refusal : Refusal) (place : ℕ) → c .told .answer ≡ answer.Refused refusal place →
       FirstRefused refusal place room (textsOf bytes) (startLine (m .state) one two)
 
--- what a byte brings about in the module's queue
+-- what a byte does to the module's queue
 abbrev pub fedTo : Module → ℕ → Bool → Fed
 fedTo m b mark = fedOf (m .queue) (m .state .unit .port) b mark
 
@@ -174,7 +174,7 @@ pub record OnlyQueued (m : Module) (q : Queue) (one two : List ℕ) (c : Call) :
 
 -- ---- a call that is refused before any command, at place 0
 
--- 9 and 11: nothing is changed, and the length told is 0
+-- 9 and 11: nothing is changed, and the length reported is 0
 pub record Untouched (m : Module) (one two : List ℕ) (c : Call) : Type 0 where
   pub after : c .after ≡ m
   pub first : c .one ≡ one
@@ -217,8 +217,8 @@ pub record RefusedEvent (refusal : Refusal) (m : Module) (one two : List ℕ) (c
   pub first : c .one ≡ one
   pub second : c .two ≡ two
 
--- the refusals of a start: 10 where the serial number or the port is none that there is, else 9 where the traces have
--- lengths that they may not have
+-- the refusals of a start: 10 where there is no such serial number or port, else 9 where the traces have lengths that
+-- they may not have
 pub data OfStart (serial port first second : ℕ) : Refusal → Type 0 where
   unitUnknown : unitKnown serial port ≡ false → OfStart serial port first second BadStart
   tracesUnfit : unitKnown serial port ≡ true → tracesFit first second ≡ false →
@@ -229,8 +229,8 @@ pub record RefusedStart (serial port first second : ℕ) (refusal : Refusal) (s 
   pub told : OfStart serial port first second refusal
   pub after : s .after ≡ freshModule (record { serial = 0; port = 1; capacity = 1 })
 
--- a refused poll: 11, where the module is none that may be; the status byte is told as 0. A poll gives no module back,
--- so it changes none.
+-- a refused poll: 11, where the module may not be; the status byte is then 0. A poll gives no module back, so it
+-- changes none.
 pub record RefusedPoll (refusal : Refusal) (m : Module) (p : Polled) : Type 0 where
   pub told : refusal ≡ BadState
   pub outside : allowedModule m ≡ false
@@ -238,6 +238,7 @@ pub record RefusedPoll (refusal : Refusal) (m : Module) (p : Polled) : Type 0 wh
 
 -- ---- demand 1
 
+-- demand 1: each call and each command, refused or not
 pub record RefusedChangesNothing : Type 0 where
   -- a command by itself, and as the next one of any line
   pub command : (room : ℕ) (waiting : Bool) (text : List ℕ) (s : State) (one two : List ℕ) (refusal : Refusal) →
@@ -271,7 +272,7 @@ pub record RefusedChangesNothing : Type 0 where
   pub byte-placed : (room b : ℕ) (mark : Bool) (m : Module) (one two : List ℕ) (refusal : Refusal) (p : ℕ) →
       byteCall room b mark m one two .told .answer ≡ answer.Refused refusal (p + 1) →
       (fedTo m b mark .ended ≡ ended.Line) × RunsWaiting room b mark m one two
-  -- an event; a start and a poll, refused exactly when told
+  -- an event; a start and a poll, refused exactly where OfStart and RefusedPoll say
   pub event : (event : Event) (m : Module) (one two : List ℕ) (refusal : Refusal) →
       eventCall event m one two .outcome ≡ Refused refusal →
       RefusedEvent refusal m one two (eventCall event m one two)

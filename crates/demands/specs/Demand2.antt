@@ -4,8 +4,8 @@
 -- Document 01 names five hollow cores that this demand shuts out; each is shut out by a claim on the calls and is a
 -- wrong program under crates/ besides:
 -- - whatever is sent is refused: by `asked` and `back` below; module/must-fail/refuses_everything,
--- - every query has the same reply: by `sent`, since a reply tells the values; reply_text/must-fail/replies_alike,
--- - a set is taken and no value kept: by `sent`; change/must-fail/keeps_nothing,
+-- - every query has the same reply: by `sent`, since a reply gives the values; reply_text/must-fail/replies_alike,
+-- - a set is taken and no value changes: by `sent`; change/must-fail/keeps_nothing,
 -- - only the first command of a line is done, the later ones just counted: by Lines.antt;
 --   line/must-fail/later_commands_acknowledged,
 -- - SPTS? replies some number: by Points.antt; reply_text/must-fail/points_invented.
@@ -14,6 +14,7 @@ use mathlib.Core.Path.{_≡_}
 use mathlib.Core.Bool.{true}
 use mathlib.Core.List.{List, [], _∷_, _++_, map, List·Memᴰ}
 use lib.ListN.{length}
+use Rattle.command.specs.Arguments.{comma, questionMark}
 use Rattle.text.specs.Text.{plain}
 use Rattle.name.specs.Names.{meaningOf}
 use Rattle.name.specs.declared.Register.{Register}
@@ -37,27 +38,31 @@ use Rattle.demands.specs.Written.{written}
 
 -- ---- the settings, as commands name them
 
--- where a value stands: at an entry of the settings table, or at one of the enables *ESE, *SRE, LIAE and ERRE
+-- where a value is: at an entry of the settings table, or in one of the enables *ESE, *SRE, LIAE and ERRE
 pub data Place : Type 0 where
   atEntry : ℕ → Place
   atEnable : Register → Place
 
--- a setting: the text of its query, the text that sends a reply back, and where its values stand
+-- a setting: the text of its query, the text that sends a reply back, and where its values are
 pub record Address : Type 0 where
   pub query : List ℕ
   pub set : List ℕ → List ℕ
   pub holds : List Place
 
--- a setting without channels, as PHAS: asked by PHAS?, sent back as PHAS and the reply; 63 is "?"
+-- a setting without channels, as PHAS: asked by PHAS?, sent back as PHAS and the reply
 abbrev pub plainly : List ℕ → Place → Address
-plainly name place = record { query = name ++ (63 ∷ []); set = λ reply. name ++ reply; holds = place ∷ [] }
+plainly name place = record { query = name ++ (questionMark ∷ []); set = λ reply. name ++ reply; holds = place ∷ [] }
 
--- channel i of a setting, as AUXV: asked by AUXV?i, sent back as AUXVi, and the reply; 44 is ","
+-- channel i of a setting, as AUXV: asked by AUXV?i, sent back as AUXVi, and the reply
 abbrev pub channelled : List ℕ → ℕ → List Place → Address
 channelled name i held =
-    record { query = name ++ (63 ∷ plain i); set = λ reply. name ++ (plain i ++ 44 ∷ reply); holds = held }
+    record {
+      query = name ++ (questionMark ∷ plain i);
+      set = λ reply. name ++ (plain i ++ comma ∷ reply);
+      holds = held;
+    }
 
--- every setting, channel and enable, by what the names stand for
+-- every setting, channel and enable, by what the names mean
 pub data IsSetting : Address → Type 0 where
   alone : (name : List ℕ) (entry : ℕ) → meaningOf name ≡ Setting entry → IsSetting (plainly name (atEntry entry))
   channel : (name : List ℕ) (base channels i : ℕ) → meaningOf name ≡ Channel base channels → 1 ≤ i → i ≤ channels →
@@ -73,24 +78,25 @@ EveryEntry = (entry : ℕ) → entry < entries → (a : Address) × IsSetting a 
 
 -- ---- values and their texts
 
--- the value at a place
+-- one value of a state
 abbrev pub valueAt : State → Place → ℕ
 valueAt s (atEntry entry) = valueOf (s .settings) entry
 valueAt s (atEnable which) = enableOf (s .enables) which
 
+-- several values of a state
 abbrev pub valuesAt : State → List Place → List ℕ
 valuesAt s places = map (valueAt s) places
 
--- its text: by the entry's decimals and sign; an enable is a whole number
+-- the text of one value: by the entry's decimals and sign; an enable is a whole number
 abbrev pub textAt : State → Place → List ℕ
 textAt s (atEntry entry) = written entry (valueOf (s .settings) entry)
 textAt s (atEnable which) = plain (enableOf (s .enables) which)
 
--- several texts with "," between them
+-- several texts with commas between them
 abbrev pub joined : List (List ℕ) → List ℕ
 joined [] = []
 joined (x ∷ []) = x
-joined (x ∷ y ∷ more) = x ++ 44 ∷ joined (y ∷ more)
+joined (x ∷ y ∷ more) = x ++ comma ∷ joined (y ∷ more)
 
 -- the reply of a setting's query, without its end
 abbrev pub replyTo : Address → State → List ℕ
@@ -115,7 +121,7 @@ pub data CanRefuse : List Place → Type 0 where
   constant : CanRefuse (atEntry oflt ∷ [])
   end : CanRefuse (atEntry send ∷ [])
 
--- no value elsewhere moves but the time constant, which shortens where the detection frequency is lifted above 200 Hz
+-- no other value changes but the time constant, which shortens where the detection frequency rises above 200 Hz
 abbrev pub OthersStay : List Place → State → State → Type 0
 OthersStay places before after =
     (p : Place) → (List·Memᴰ p places → ⊥) → (p ≡ atEntry oflt → ⊥) → valueAt after p ≡ valueAt before p
@@ -159,6 +165,7 @@ pub record RoundTrip (a : Address) (m : Module) (one two : List ℕ) : Type 0 wh
   pub back : Settable a (m .state) → (room : ℕ) →
       lineCall room (a .set (replyTo a (m .state))) m one two ≡ answered [] m one two
 
+-- demand 2: every setting makes the round trip, in every module that 11 and 9 let pass
 abbrev pub Demand2 : Type 0
 Demand2 =
     (a : Address) → IsSetting a → (m : Module) (one two : List ℕ) → Ready m one two → Internal a (m .state) →

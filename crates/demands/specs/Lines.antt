@@ -16,17 +16,17 @@ use Rattle.module.specs.Module.{guardOf}
 use Rattle.module.specs.declared.Module.{Module}
 use Rattle.lockin.specs.Calls.{Call, ran, lineCall}
 
--- the commands of y, begun where a line stands: with its state and traces, behind its reply bytes and its places; none
--- where a refusal 4 dropped the rest
+-- the line l with the commands of y after it: from its state and traces on, after its reply bytes and its places; none
+-- of them where a refusal 4 dropped the rest
 abbrev pub continued : ℕ → List ℕ → Line → Line
 continued room y l = cond (l .dropped) l (runAll room (textsOf y) l)
 
--- an answer whose places are so many further on
+-- an answer with n commands more before it, so that its place is n further on
 abbrev pub laterAnswer : ℕ → Answer → Answer
 laterAnswer n Passed = Passed
 laterAnswer n (Refused r place) = Refused r (place + n)
 
--- a call whose answer's place is so much further on
+-- a call whose answer's place is n further on
 abbrev pub later : ℕ → Call → Call
 later n c =
     record {
@@ -49,6 +49,7 @@ pub record InTurn (room : ℕ) (x y : List ℕ) (m : Module) (one two : List ℕ
       lineCall room (x ++ semicolon ∷ y) m one two
       ≡ later (length (textsOf x)) (lineCall room y (c .after) (c .one) (c .two))
 
+-- this holds of all lines x;y that are not too long
 abbrev pub SeveralCommands : Type 0
 SeveralCommands =
     (room : ℕ) (x y : List ℕ) → length (x ++ semicolon ∷ y) ≤ lineLimit → (m : Module) (one two : List ℕ) →

@@ -20,6 +20,7 @@ use Rattle.name.specs.declared.Form.{Form}
 use Rattle.name.specs.declared.Form.the-variants.{Words, Floats}
 use Rattle.name.specs.declared.Action.{Action}
 use Rattle.name.specs.declared.Action.the-variants as action
+use Rattle.command.specs.Arguments.{questionMark}
 use Rattle.command.specs.Parsed.{traces, parsedOf}
 use Rattle.command.specs.declared.Kind.{Kind}
 use Rattle.command.specs.declared.Kind.the-variants.{Set, Query, Act}
@@ -54,7 +55,7 @@ use Rattle.demands.specs.Demand2.{joined, answered}
 abbrev pub History : Type 0
 History = List Pair
 
--- with the latest pair behind it where that is stored, else as it was
+-- the history with the latest pair at its end where that is stored, else as it was
 abbrev pub pairStored : Bool → State → History → History
 pairStored stores s history = cond stores (history ++ (s .latest ∷ [])) history
 
@@ -143,8 +144,8 @@ afterEventCall e m one two history =
 abbrev pub pairAt : History → ℕ → Pair
 pairAt history n = getD history n (record { one = 0; two = 0 })
 
--- the last pairs of the history, as many as there are slots, lie in a trace by one of their words: pair n in slot n mod
--- capacity
+-- a trace has one word of each of the last pairs of the history, as many pairs as there are slots: that of pair n in
+-- slot n mod capacity
 abbrev pub InSlots : (Pair → ℕ) → History → ℕ → List ℕ → Type 0
 InSlots word history capacity trace =
     (n : ℕ) → n < length history → length history ≤ n + capacity → getD trace (n % capacity) 0 ≡ word (pairAt history n)
@@ -210,13 +211,14 @@ unfoldable pub sentOf : Form → ℕ → List Pair → List ℕ
 sentOf form t [] = []
 sentOf form t (p ∷ more) = littleEndian (formed form (wordOf t p)) ++ sentOf form t more
 
--- the query of count points of trace t from a bin on, as TRCL?1,0,2; 63 is "?"
+-- the name of the query that sends points in this form
 abbrev pub traceName : Form → List ℕ
 traceName Words = bytes "TRCL"
 traceName Floats = bytes "TRCB"
 
+-- the query of count points of trace t from a bin on, as TRCL?1,0,2
 abbrev pub traceQuery : Form → ℕ → ℕ → ℕ → List ℕ
-traceQuery form t bin count = traceName form ++ (63 ∷ joined (plain t ∷ plain bin ∷ plain count ∷ []))
+traceQuery form t bin count = traceName form ++ (questionMark ∷ joined (plain t ∷ plain bin ∷ plain count ∷ []))
 
 -- a module that neither 11 nor 9 refuses, its traces, and the history that they hold
 pub record Holding (history : History) (m : Module) (one two : List ℕ) : Type 0 where
@@ -242,7 +244,7 @@ pub record PointsReplied (history : History) (m : Module) (one two : List ℕ) :
       heldCount history m < bin + count →
       lineCall room (traceQuery form t bin count) m one two .told .answer ≡ answer.Refused NotAllowed 1
 
--- for every history, module and traces
+-- the points are replied so for every history, module and traces
 abbrev pub RepliesPoints : Type 0
 RepliesPoints =
     (history : History) (m : Module) (one two : List ℕ) → Holding history m one two → PointsReplied history m one two
@@ -256,8 +258,8 @@ pub record DoesAs (c : Call) (e : EventCall) : Type 0 where
   pub second : c .two ≡ e .two
   pub reply : c .out ≡ []
 
--- wherever TRIG stands in a line it does what the event does; as a line by itself it leaves what the event leaves in
--- every module and with any traces, and both are answered 0 where neither 11 nor 9 refuses the call
+-- TRIG anywhere in a line does what the event does; as a line by itself it leaves what the event leaves in every module
+-- and with any traces, and both are answered 0 where neither 11 nor 9 refuses the call
 pub record TrigIsTrigger : Type 0 where
   pub command : (room : ℕ) (waiting : Bool) (s : State) (one two : List ℕ) →
       let e = eventOf event.Trigger s one two in

@@ -1,6 +1,6 @@
 -- What the machine can hold: the modules, traces and events that there can be. The definitions of the calls speak of
--- numbers without end; the fields of a module, the words of a trace and the values of an event have the sizes that are
--- told here, so a claim that there is such a module, trace or event asks for these too.
+-- numbers of any size; the fields of a module, the words of a trace and the values of an event have the sizes given
+-- here, so a claim that there is such a module, trace or event asks for these too.
 use Prim.Native.Nat.{ℕ, _^_, _<_}
 use mathlib.Core.Path.{_≡_}
 use mathlib.Core.List.{List, [], _∷_}
@@ -15,35 +15,37 @@ use Rattle.queue.specs.Queue.{lineLimit}
 use Rattle.queue.specs.declared.Queue.{Queue}
 use Rattle.module.specs.declared.Module.{Module}
 
--- a byte, a word of 32 bits, a count of bytes in memory
+-- a byte
 abbrev pub Byte : ℕ → Type 0
 Byte x = x < 2 ^ 8
 
+-- a word of 32 bits
 abbrev pub Word : ℕ → Type 0
 Word x = x < 2 ^ 32
 
+-- a count of bytes in memory
 abbrev pub Count : ℕ → Type 0
 Count x = x < 2 ^ 64
 
--- everything in a list is such a one
+-- everything in a list is Such
 abbrev pub Every : {A : Type 0} → (A → Type 0) → List A → Type 0
 Every Such [] = Unit {0}
 Every Such (x ∷ xs) = Such x × Every Such xs
 
--- the event registers, and the enables
+-- the event registers are bytes
 pub record RegistersFit (r : Registers) : Type 0 where
   pub standard : Byte (r .standard)
   pub lia : Byte (r .lia)
   pub errors : Byte (r .errors)
 
+-- the enables are bytes
 pub record EnablesFit (e : Enables) : Type 0 where
   pub standard : Byte (e .standard)
   pub service : Byte (e .service)
   pub lia : Byte (e .lia)
   pub errors : Byte (e .errors)
 
--- a value for each entry of the settings table, the external frequency, storage, the latest pair and what is fixed at
--- start
+-- a state has a value for each entry of the settings table, and every value fits its field
 pub record StateFits (s : State) : Type 0 where
   pub full : length (s .settings .values) ≡ entries
   pub values : Every Word (s .settings .values)
@@ -55,17 +57,18 @@ pub record StateFits (s : State) : Type 0 where
   pub latest : Word (s .latest .one) × Word (s .latest .two)
   pub unit : Word (s .unit .serial) × Byte (s .unit .port) × Word (s .unit .capacity)
 
--- the queue has its 256 bytes, however many of them wait
+-- a queue has as many bytes as a line may have, however many of them wait
 pub record QueueFits (q : Queue) : Type 0 where
   pub full : length (q .bytes) ≡ lineLimit
   pub bytes : Every Byte (q .bytes)
   pub len : Count (q .len)
 
+-- a module's state and queue fit
 pub record ModuleFits (m : Module) : Type 0 where
   pub state : StateFits (m .state)
   pub queue : QueueFits (m .queue)
 
--- the values of an event
+-- the values of an event fit
 abbrev pub EventFits : Event → Type 0
 EventFits (Latest w v) = Word w × Word v
 EventFits Tick = Unit {0}

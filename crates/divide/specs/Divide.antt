@@ -10,13 +10,15 @@ unfoldable pub span : ℕ → List ℕ → ℕ
 span sep [] = 0
 span sep (b ∷ bs) = cond (eqb b sep) 0 (suc (span sep bs))
 
--- the bytes before the first separator, and those after it
+-- the bytes before the first separator
 abbrev pub before : ℕ → List ℕ → List ℕ
 before sep s = take (span sep s) s
 
+-- the bytes after the first separator
 abbrev pub after : ℕ → List ℕ → List ℕ
 after sep s = drop (suc (span sep s)) s
 
+-- parts with one byte more at the front of the first
 unfoldable pub onHead : ℕ → List (List ℕ) → List (List ℕ)
 onHead b [] = (b ∷ []) ∷ []
 onHead b (p ∷ ps) = (b ∷ p) ∷ ps

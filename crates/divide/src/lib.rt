@@ -18,7 +18,7 @@ pub fn span_of(s: &[u8], separator: u8) -> usize
     i
 }
 
-// Where the part that starts at a ends: at a itself where that is past the last byte.
+// Where the part that starts at offset `a` ends: at `a` itself where that is past the last byte.
 pub fn end_of(s: &[u8], separator: u8, a: usize) -> usize
     ensures { λ r. ⌜ r ≡ a + span separator (drop a (now (s .entry))) ⌝ }
     ensures { λ r. ⌜ (a ≤ r) × (r ≤ max a (length (now (s .entry)))) ⌝ }

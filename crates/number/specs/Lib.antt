@@ -1,4 +1,4 @@
--- What a number's text means, and what is taken of it; Parts is what only inner functions are held to.
+-- What a number's text means, and what a range makes of it; Parts is what only inner functions are held to.
 pub mod Number
 pub mod Value
 pub mod Parts

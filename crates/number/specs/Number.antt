@@ -6,52 +6,71 @@ use lib.Dec.{leb, ltb, eqb}
 use lib.ListN.{length}
 use Rattle.divide.specs.Divide.{span, before, after}
 
+-- the sign "+"
 abbrev pub plus : ℕ
 plus = 43
 
+-- the sign "-"
 abbrev pub minus : ℕ
 minus = 45
 
+-- the decimal point "."
 abbrev pub point : ℕ
 point = 46
 
+-- "E", before a power of ten
 abbrev pub letterE : ℕ
 letterE = 69
 
-abbrev pub isDigit : ℕ → Bool
-isDigit b = leb 48 b && leb b 57
+-- the digit "0"
+abbrev pub digitZero : ℕ
+digitZero = 48
 
+-- the digit "9"
+abbrev pub digitNine : ℕ
+digitNine = 57
+
+-- whether a byte is a digit
+abbrev pub isDigit : ℕ → Bool
+isDigit b = leb digitZero b && leb b digitNine
+
+-- whether all bytes are digits
 unfoldable pub allDigits : List ℕ → Bool
 allDigits [] = true
 allDigits (b ∷ bs) = isDigit b && allDigits bs
 
+-- whether a text begins with the byte b
 unfoldable pub begins : ℕ → List ℕ → Bool
 begins b [] = false
 begins b (x ∷ xs) = eqb x b
 
--- "an optional sign": the text after it
+-- a text without the sign at its front, if it has one
 unfoldable pub unsigned : List ℕ → List ℕ
 unsigned [] = []
 unsigned (b ∷ bs) = cond (eqb b minus) bs (cond (eqb b plus) bs (b ∷ bs))
 
--- "1 to 15 digits with at most one point"
+-- the most digits that a number has, exponent aside
 abbrev pub digitLimit : ℕ
 digitLimit = 15
 
+-- the digits before and after the first point
 abbrev pub digits : List ℕ → List ℕ
 digits m = before point m ++ after point m
 
+-- the part before "E": digits, at least one and at most the limit, and at most one point
 unfoldable pub isMantissa : List ℕ → Bool
 isMantissa m = leb 1 (length (digits m)) && (leb (length (digits m)) digitLimit && allDigits (digits m))
 
--- "an optional sign and one or two digits"
+-- the part after "E": a sign or none, then one digit or two
 unfoldable pub isExponent : List ℕ → Bool
 isExponent x = leb 1 (length (unsigned x)) && (leb (length (unsigned x)) 2 && allDigits (unsigned x))
 
--- "and optionally E"
+-- whether there is an "E"
 abbrev pub hasExponent : List ℕ → Bool
 hasExponent u = ltb (span letterE u) (length u)
 
--- "A number has an optional sign, 1 to 15 digits with at most one point, and optionally E, an optional sign and one or two digits"
+-- a sign or none, a mantissa, and where there is an "E" an exponent after it
 unfoldable pub isNumber : List ℕ → Bool
-isNumber s = (not (hasExponent (unsigned s)) || isExponent (after letterE (unsigned s))) && isMantissa (before letterE (unsigned s))
+isNumber s =
+    (not (hasExponent (unsigned s)) || isExponent (after letterE (unsigned s)))
+    && isMantissa (before letterE (unsigned s))

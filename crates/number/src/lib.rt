@@ -1,45 +1,59 @@
-// Numbers: what is kept of one that was read, tested against a range and rounded to a step.
+// Numbers: the quantity of one that was read, tested against a range and rounded to a step.
 ghost use mathlib.Core.Path.{_≡_};
 ghost use mathlib.Core.Bool.{cond};
 ghost use Prim.Native.Nat.{_+_, _<_, _≤_};
 ghost use Rattle.number.specs.Parts.{cap, takenOf, roundedTo, fitsRange, placedIn, valueIn};
 
-// A whole part that lies past every range, at which reading stops to count: 2 to the power 40.
-pub const CAP: u64 = 1099511627776;
+// A whole part past every range: 2^40. A larger one counts as this.
+pub const CAP: u64 = 0x100_0000_0000;
 
-// The largest value that is kept.
-const LARGEST: u64 = 4294967295;
+// The largest value that a setting can have: the largest of 32 bits.
+const LARGEST: u64 = 0xFFFF_FFFF;
 
-// What is kept of a number in units: its sign, its whole part up to the cap, whether what is left is at least a half, and whether nothing is left.
+// A number in an argument's units, as far as any range and step can ask: enough to test and to round it exactly.
 pub struct Quantity {
+    // Whether it has a minus.
     pub negative: bool,
+    // Its whole part without the sign, at most CAP.
     pub whole: u64,
+    // Whether the part after the point is at least a half.
     pub half: bool,
+    // Whether the part after the point is zero.
     pub exact: bool,
 }
 
 // What a text is read as.
 pub enum Reading {
+    // A number, with its quantity.
     Number(Quantity),
+    // No number.
     NotNumber,
 }
 
-// The values that an argument may have, in units. A value x is kept as x + bias, and so are the two ends. Where whole is set, the number must be whole; else it is rounded to the step.
+// The values that an argument may have, in the argument's units. A value x is stored as x + bias, so as not to be
+// negative.
 pub struct Range {
+    // What is added to a value where it is stored.
     pub bias: u32,
+    // The lowest value, bias added.
     pub low: u32,
+    // The highest value, bias added.
     pub high: u32,
+    // What a value is rounded to a multiple of.
     pub step: u32,
+    // Whether only whole numbers are taken.
     pub whole: bool,
 }
 
-// What an argument is taken as: the value kept, or refusal 2.
+// What a range makes of an argument.
 pub enum Argument {
+    // The value, rounded and with the bias added.
     Value(u32),
+    // Refusal 2.
     Refused,
 }
 
-// One where the flag is set, else none.
+// 1 where the flag is set, else 0.
 fn one_if(flag: bool) -> u64
     ensures { λ r. ⌜ (r ≡ cond flag 1 0) × (r ≤ 1) ⌝ }
 {
@@ -71,7 +85,7 @@ fn fits(range: Range, q: Quantity) -> bool
     bias + whole + 1 <= high + exact
 }
 
-// The nearest multiple of the step, halves up.
+// The multiple of the step nearest to the number without its sign, halves up; 0 for step 0.
 fn round_to(q: Quantity, step: u32) -> u64
     requires { ⌜ q .whole < cap ⌝ }
     ensures { λ r. ⌜ (r ≡ roundedTo step q) × (r ≤ q .whole + step) ⌝ }
@@ -89,7 +103,7 @@ fn round_to(q: Quantity, step: u32) -> u64
     quotient * s
 }
 
-// The value that is kept for the number, bias included.
+// The number rounded to the range's step, bias added.
 fn placed(range: Range, q: Quantity) -> u64
     requires { ⌜ q .whole < cap ⌝ }
     ensures { λ r. ⌜ r ≡ placedIn range q ⌝ }
@@ -105,7 +119,7 @@ fn placed(range: Range, q: Quantity) -> u64
     bias + n
 }
 
-// The value kept, which fits 32 bits for every range whose bias, high end and step do together.
+// The same as a value of 32 bits: refused where it is larger, which no range of the settings table allows.
 fn value_in(range: Range, q: Quantity) -> Argument
     requires { ⌜ q .whole < cap ⌝ }
     ensures { λ r. ⌜ r ≡ valueIn range q ⌝ }
@@ -117,7 +131,7 @@ fn value_in(range: Range, q: Quantity) -> Argument
     Argument::Value(value as u32)
 }
 
-// The number taken as an argument of the range, or refusal 2.
+// A number as an argument of the range: its value, or refusal 2.
 pub fn take(q: Quantity, range: Range) -> Argument
     ensures { λ r. ⌜ r ≡ takenOf range q ⌝ }
 {

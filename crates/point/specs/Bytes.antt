@@ -5,13 +5,13 @@ use mathlib.Core.List.{List, [], _∷_}
 -- the k lowest bytes of x, the lowest of them first
 unfoldable pub lowFirst : ℕ → ℕ → List ℕ
 lowFirst zero x = []
-lowFirst (suc k) x = x % 256 ∷ lowFirst k (x / 256)
+lowFirst (suc k) x = x % 0x100 ∷ lowFirst k (x / 0x100)
 
--- "TRCL? i,j,k sends k words from bin j, low byte first.": a 32-bit word has four bytes
+-- the four bytes of a 32-bit word, as traces are sent
 unfoldable pub littleEndian : ℕ → List ℕ
 littleEndian x = lowFirst 4 x
 
 -- the number that bytes make, the lowest of them first
 unfoldable pub numberOf : List ℕ → ℕ
 numberOf [] = 0
-numberOf (b ∷ bs) = b + 256 * numberOf bs
+numberOf (b ∷ bs) = b + 0x100 * numberOf bs

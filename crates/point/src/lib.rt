@@ -2,52 +2,56 @@
 ghost use mathlib.Core.Bool.{false};
 ghost use mathlib.Core.Path.{_≡_};
 ghost use Prim.Native.Nat.{_≤_, _<_};
-ghost use Rattle.point.specs.Point.{exponentMost, isLegal, isNegative, magnitudeOf, exponentOf, singleOf, floatOf};
+ghost use Rattle.point.specs.Point.{magnitudeMost, exponentMost, isLegal, isNegative};
+ghost use Rattle.point.specs.Point.{magnitudeOf, exponentOf, singleOf, floatOf};
 ghost use Rattle.point.specs.Bytes.{littleEndian};
 
 // A legal point's exponent is at most this.
 const MAX_EXPONENT: u32 = 236;
+
 // A single's sign bit.
 const SIGN: u32 = 0x8000_0000;
-// The weight of a single's exponent field, and of the highest digit, which its fraction field hides.
+
+// The weight of a single's exponent field, and of its highest digit, which the fraction field leaves out.
 const HIDDEN: u32 = 0x0080_0000;
-// What is sent for a word that is no legal point: 00 00 C0 7F.
+
+// What is sent for a word that is no legal point: 00 00 C0 7F, a NaN.
 const NO_POINT: u32 = 0x7FC0_0000;
 
 // The third byte, the point's exponent e.
 fn exponent(word: u32) -> u32
     ensures { λ r. ⌜ r ≡ exponentOf word ⌝ }
 {
-    word / 65536 % 256
+    word / 0x1_0000 % 0x100
 }
 
 // Whether the word is a legal point: top byte 0, e at most MAX_EXPONENT.
 pub fn legal(word: u32) -> bool
     ensures { λ r. ⌜ r ≡ isLegal word ⌝ }
 {
-    word / 16777216 == 0 && exponent(word) <= MAX_EXPONENT
+    word / 0x100_0000 == 0 && exponent(word) <= MAX_EXPONENT
 }
 
 // Whether m, the low 16 bits as a signed number, is negative.
 fn negative(word: u32) -> bool
     ensures { λ r. ⌜ r ≡ isNegative word ⌝ }
 {
-    32768 <= word % 65536
+    0x8000 <= word % 0x1_0000
 }
 
-// The magnitude of m.
+// m without its sign.
 fn magnitude(word: u32) -> u32
     ensures { λ r. ⌜ r ≡ magnitudeOf word ⌝ }
 {
     if negative(word) {
-        return 65536 - word % 65536;
+        return 0x1_0000 - word % 0x1_0000;
     }
-    word % 65536
+    word % 0x1_0000
 }
 
 // The single of value a * 2^(e - 124): the leading zeros of a give its exponent and the shift of its fraction.
 fn single(a: u32, e: u32) -> u32
-    requires { ⌜ (0 < a) × (a ≤ 32768) ⌝ }
+    requires { ⌜ (0 < a) × (a ≤ magnitudeMost) ⌝ }
     requires { ⌜ e ≤ exponentMost ⌝ }
     ensures { λ r. ⌜ r ≡ singleOf false a e ⌝ }
 {
@@ -79,9 +83,9 @@ pub fn float_bits(word: u32) -> u32
 pub fn word_bytes(x: u32) -> [u8; 4]
     ensures { λ r. ⌜ r ≡ littleEndian x ⌝ }
 {
-    let low = (x % 256) as u8;
-    let second = (x / 256 % 256) as u8;
-    let third = (x / 65536 % 256) as u8;
-    let top = (x / 16777216) as u8;
+    let low = (x % 0x100) as u8;
+    let second = (x / 0x100 % 0x100) as u8;
+    let third = (x / 0x1_0000 % 0x100) as u8;
+    let top = (x / 0x100_0000) as u8;
     [low, second, third, top]
 }

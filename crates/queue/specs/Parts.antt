@@ -1,5 +1,5 @@
--- The parts in which the code takes a byte and tests a queue, each told by what `Queue` defines. No promise of a public
--- call speaks of these.
+-- The parts in which the code takes a byte and tests a queue, each by what `Queue` defines. No promise of a public call
+-- speaks of these.
 use Prim.Native.Nat.{ℕ, _+_, _<_}
 use mathlib.Core.Path.{_≡_}
 use mathlib.Core.Bool.{Bool, false, cond, _&&_}
@@ -12,11 +12,11 @@ use Rattle.queue.specs.declared.QueueStep.{QueueStep}
 use Rattle.queue.specs.declared.Ended.{Ended}
 use Rattle.queue.specs.declared.Ended.the-variants.{Nothing, Line, TooLong}
 
--- a queue of its parts
+-- a queue from its parts
 abbrev pub queueOf : List ℕ → ℕ → Bool → Queue
 queueOf bytes len dropping = record { bytes = bytes; len = len; dropping = dropping }
 
--- the bytes with one more at a place, where it is stored
+-- the bytes with the byte b at an offset, if it is stored and there is room
 abbrev pub storedIn : Bool → ℕ → ℕ → List ℕ → List ℕ
 storedIn stores at b bytes = cond (stores && ltb at lineLimit) (set bytes at b) bytes
 
@@ -26,14 +26,18 @@ afterRun Nothing q = q
 afterRun Line q = emptiedOf q
 afterRun TooLong q = q
 
--- r tells what a byte b does to every queue of len bytes, where result gives the queue after it and what it brings
--- about: fed, that result; run, the queue once a line that ended has run
+-- the step r says what a byte b does to every queue in which len bytes wait: fed, the result, which is the queue after
+-- it and what it ends; run, the queue once a line that ended has run
 pub record Tells (result : List ℕ → Fed) (len b : ℕ) (r : QueueStep) : Type 0 where
   pub fed : (bytes : List ℕ) → result bytes
       ≡ record { queue = queueOf (storedIn (r .stores) len b bytes) (r .line) (r .dropping); ended = r .ended }
   pub run : (bytes : List ℕ) → afterRun (r .ended) (queueOf bytes (r .line) (r .dropping))
       ≡ queueOf bytes (r .len) (r .dropping)
 
--- none of n bytes from a place on ends a line
+-- how many bytes are tested at once for a line's end
+abbrev pub block : ℕ
+block = 16
+
+-- none of n bytes from the offset at on ends a line
 abbrev pub EndNone : ℕ → List ℕ → ℕ → ℕ → Type 0
 EndNone port bytes at n = (k : ℕ) → k < n → endsLine port (getD bytes (at + k) 0) ≡ false

@@ -4,40 +4,57 @@ ghost use mathlib.Core.Bool.{true, false};
 ghost use Prim.Native.Nat.{_+_, _≤_, min};
 ghost use lib.ListN.{length, take, drop};
 ghost use Rattle.queue.specs.Queue.{lineLimit, emptyQueue, endsLine, isMarked, addedOf, fedOf, noEnd, keepsOf};
-ghost use Rattle.queue.specs.Parts.{queueOf, storedIn, Tells, EndNone};
+ghost use Rattle.queue.specs.Parts.{queueOf, storedIn, Tells, block, EndNone};
 use clean::LINE;
 
-// The ports, as numbers.
+// The number of the RS232 port.
 pub const RS232: u8 = 0;
 
+// The number of the GPIB port.
 pub const GPIB: u8 = 1;
 
-// The first len bytes wait for their line's end; while dropping, bytes are dropped up to the line's end.
+// How many bytes are tested at once for a line's end.
+const BLOCK: usize = 16;
+
+// Where the last block of the queue begins.
+const LAST_BLOCK: usize = LINE - BLOCK;
+
+// The bytes of a line that has not ended.
 pub struct Queue {
+    // The bytes that wait, then bytes that do not count.
     pub bytes: [u8; LINE],
+    // How many bytes wait.
     pub len: usize,
+    // Whether bytes are dropped up to the line's end, after a line that was too long.
     pub dropping: bool,
 }
 
-// What a byte brings about: nothing yet; the end of the line whose bytes wait in the queue; a line that is too long.
+// What a byte ends.
 pub enum Ended {
+    // No line.
     Nothing,
+    // The line that waits in the queue, which can run.
     Line,
+    // A line that is too long: refusal 5.
     TooLong,
 }
 
-// What a byte does to a queue, in numbers: whether it is stored behind the bytes that wait; how many bytes the line
-// then has; how many wait once a line that ended has run; whether bytes are dropped from here on; what it brings about.
+// What a byte does to a queue, whose bytes are neither read nor copied.
 pub struct QueueStep {
+    // Whether the byte is stored after those that wait.
     pub stores: bool,
+    // How many bytes the line then has.
     pub line: usize,
+    // How many bytes wait once a line that ended has run.
     pub len: usize,
+    // Whether bytes are dropped from here on.
     pub dropping: bool,
+    // What the byte ends.
     pub ended: Ended,
 }
 
 impl Queue {
-    // No byte waits.
+    // A queue in which no byte waits.
     pub fn empty() -> Queue
         ensures { λ r. ⌜ r ≡ emptyQueue ⌝ }
     {
@@ -62,7 +79,7 @@ pub fn ends_line(port: u8, b: u8) -> bool
     false
 }
 
-// Whether a byte's end mark ends a line: not on RS232.
+// Whether a byte's end mark ends a line: on GPIB only.
 fn is_marked(port: u8, mark: bool) -> bool
     ensures { λ r. ⌜ r ≡ isMarked port mark ⌝ }
 {
@@ -72,7 +89,7 @@ fn is_marked(port: u8, mark: bool) -> bool
     false
 }
 
-// A byte that is no line end of its own, behind so many bytes: the line's last one where it is marked.
+// A byte that ends no line by itself, after `len` bytes: the line's last one where it is marked.
 fn added(len: usize, b: u8, marked: bool) -> QueueStep
     ensures { λ r. ⌜ Tells (λ bytes. addedOf (queueOf bytes len false) b marked) len b r ⌝ }
 {
@@ -103,7 +120,7 @@ fn added(len: usize, b: u8, marked: bool) -> QueueStep
     }
 }
 
-// A byte, with its end mark or not, and a queue of so many bytes: they are neither read nor copied.
+// A byte, with its end mark or not, and a queue in which `len` bytes wait.
 pub fn step_of(len: usize, dropping: bool, port: u8, b: u8, mark: bool) -> QueueStep
     ensures { λ r. ⌜ Tells (λ bytes. fedOf (queueOf bytes len dropping) port b mark) len b r ⌝ }
 {
@@ -130,7 +147,7 @@ pub fn step_of(len: usize, dropping: bool, port: u8, b: u8, mark: bool) -> Queue
     added(len, b, marked)
 }
 
-// Stores a byte behind the first `at`, where it is to be stored.
+// Stores a byte at the offset `at`, if it is to be stored.
 pub fn store(bytes: &mut [u8; LINE], at: usize, b: u8, stores: bool)
     ensures { λ _. ⌜ now (bytes .exit) ≡ storedIn stores at b (now (bytes .entry)) ⌝ }
 {
@@ -141,7 +158,7 @@ pub fn store(bytes: &mut [u8; LINE], at: usize, b: u8, stores: bool)
     }
 }
 
-// Where a line of so many bytes ends among the queue's bytes.
+// Where a line of `len` bytes ends in the queue.
 pub fn line_end(len: usize) -> usize
     ensures { λ r. ⌜ r ≡ min len lineLimit ⌝ }
 {
@@ -151,25 +168,22 @@ pub fn line_end(len: usize) -> usize
     LINE
 }
 
-// Whether none of sixteen bytes ends a line. No byte ends the loop early: so all sixteen are tested at once.
+// Whether no byte of a block ends a line. No byte ends the loop early, so that all of them are tested at once.
 fn sixteen_end_none(bytes: &[u8; LINE], at: usize, port: u8) -> bool
-    requires { ⌜ at + 16 ≤ lineLimit ⌝ }
-    ensures { λ r. ⌜ (r ≡ true → EndNone port (now (bytes .entry)) at 16)
-        × (EndNone port (now (bytes .entry)) at 16 → r ≡ true) ⌝ }
+    requires { ⌜ at + block ≤ lineLimit ⌝ }
+    ensures { λ r. ⌜ (r ≡ true → EndNone port (now (bytes .entry)) at block)
+        × (EndNone port (now (bytes .entry)) at block → r ≡ true) ⌝ }
 {
     let mut none = true;
     let mut k = 0;
-    while k < 16 {
+    while k < BLOCK {
         none = none & !ends_line(port, bytes[at + k]);
         k += 1;
     }
     none
 }
 
-// Where the last sixteen bytes begin.
-const LAST_SIXTEEN: usize = LINE - 16;
-
-// A place before which none of the first len bytes ends a line, found sixteen bytes at a time; it may lie past them.
+// An offset before which none of the first `len` bytes ends a line, found by whole blocks; it may be past them.
 fn passed_over(bytes: &[u8; LINE], len: usize, port: u8) -> usize
     requires { ⌜ len ≤ length (now bytes) ⌝ }
     ensures { λ r. ⌜ noEnd port (drop r (take len (now (bytes .entry))))
@@ -177,18 +191,18 @@ fn passed_over(bytes: &[u8; LINE], len: usize, port: u8) -> usize
 {
     let mut i = 0;
     while i < len {
-        if LAST_SIXTEEN < i {
+        if LAST_BLOCK < i {
             return i;
         }
         if sixteen_end_none(bytes, i, port) {} else {
             return i;
         }
-        i += 16;
+        i += BLOCK;
     }
     i
 }
 
-// Refusal 11's part: whether a state of the port may hold a queue of these bytes, which are lent and not copied.
+// Whether a state of the port may have a queue of these bytes, which are lent and not copied: its part of refusal 11.
 pub fn keeps(bytes: &[u8; LINE], len: usize, dropping: bool, port: u8) -> bool
     requires { ⌜ length (now bytes) ≡ lineLimit ⌝ }
     ensures { λ r. ⌜ r ≡ keepsOf (queueOf (now (bytes .entry)) len dropping) port ⌝ }

@@ -60,17 +60,17 @@ pub digits-not-second : (xs ys : List ℕ) → allDigits ys ≡ false → allDig
 digits-not-second xs ys e = digits-append xs ys ∙ rw e (and-false (allDigits xs))
 
 -- a digit of two runs: in the first, in the second, after both
-module _ (front back : List ℕ) (place : ℕ) where
-  pub in-front : (h : place < length front) → getD front place 0 ≡ getD (front ++ back) place 48
-  in-front h = within front 0 48 place h ∙ sym (List·getD-append front back 48 place h)
+module _ (front back : List ℕ) (index : ℕ) where
+  pub in-front : (h : index < length front) → getD front index 0 ≡ getD (front ++ back) index 48
+  in-front h = within front 0 48 index h ∙ sym (List·getD-append front back 48 index h)
 
-  pub in-back : length front ≤ place → place - length front < length back → getD back (place - length front) 0 ≡ getD (front ++ back) place 48
+  pub in-back : length front ≤ index → index - length front < length back → getD back (index - length front) 0 ≡ getD (front ++ back) index 48
   in-back h l =
-      let e : length front + (place - length front) ≡ place = omega arith in
-      within back 0 48 (place - length front) l ∙ sym (getD-append-add front back (place - length front) 48) ∙ ap (λ n. getD (front ++ back) n 48) e
+      let e : length front + (index - length front) ≡ index = omega arith in
+      within back 0 48 (index - length front) l ∙ sym (getD-append-add front back (index - length front) 48) ∙ ap (λ n. getD (front ++ back) n 48) e
 
-  pub after-both : length front ≤ place → length back ≤ place - length front → 48 ≡ getD (front ++ back) place 48
-  after-both h l = sym (List·getD-eq-default (front ++ back) 48 {n = place} (omega (arith, length-append front back)))
+  pub after-both : length front ≤ index → length back ≤ index - length front → 48 ≡ getD (front ++ back) index 48
+  after-both h l = sym (List·getD-eq-default (front ++ back) 48 {n = index} (omega (arith, length-append front back)))
 
 -- one digit more, under the cap
 pub grow : (ds : List ℕ) (n v d : ℕ) → v ≡ min cap (places ds 0 n) → d ≡ digit ds n → min cap (v * 10 + d) ≡ min cap (places ds 0 (n + 1))

@@ -1,12 +1,13 @@
-// Number text as a quantity, read exactly: by places, with no wide number.
+// Number text as a quantity, read exactly: digit by digit, without numbers of more than 64 bits.
 ghost use mathlib.Core.Path.{_≡_};
 ghost use mathlib.Core.Bool.{true};
 ghost use mathlib.Core.List.{_++_};
 ghost use Prim.Native.Nat.{_+_, _*_, _≤_, min};
 ghost use lib.ListN.{length, getD, drop};
-ghost use Rattle.number.specs.Number.{allDigits, digitLimit};
+ghost use Rattle.number.specs.Number.{digitZero, allDigits, digitLimit};
 ghost use Rattle.number.specs.Parts.{cap, quantityOf, readOf};
-ghost use Rattle.reading.specs.Parts.{places, allZero, shortOf, exponentOf, raisedBy, loweredBy, TwoDigits, Bounded, moved, digitsOf, mantissaOf, unsignedOf, upMost};
+ghost use Rattle.reading.specs.Parts.{places, allZero, moved, digitsOf, mantissaOf, unsignedOf, upMost};
+ghost use Rattle.reading.specs.Parts.{shortOf, exponentOf, raisedBy, loweredBy, TwoDigits, Bounded};
 use number::CAP;
 use number::Quantity;
 use number::Reading;
@@ -14,28 +15,33 @@ use number::Reading;
 // The most digits that a number has, point and exponent aside.
 const DIGIT_LIMIT: usize = 15;
 
-// A run of one or two digits as a number.
+// What the digits of an exponent are read as.
 enum Short {
+    // One or two digits: their number.
     Of(usize),
+    // No digit, more than two, or another byte.
     Long,
 }
 
-// The power of ten behind the E: by how many places the point moves up and down.
+// What the text after "E" is read as.
 enum Exponent {
+    // A power of ten: the digits by which the point moves to the right, and to the left.
     Power(usize, usize),
+    // No exponent.
     Wrong,
 }
 
+// Whether all bytes are digits.
 fn all_digits(s: &[u8]) -> bool
     ensures { λ r. ⌜ r ≡ allDigits (now (s .entry)) ⌝ }
 {
     let mut i = 0;
     while i < s.len() {
         let b = s[i];
-        if b < 48 {
+        if b < b'0' {
             return false;
         }
-        if 57 < b {
+        if b'9' < b {
             return false;
         }
         i += 1;
@@ -43,22 +49,22 @@ fn all_digits(s: &[u8]) -> bool
     true
 }
 
-// The digit at a place of the number, counted from its first: 0 past the last.
-fn digit_at(front: &[u8], back: &[u8], place: usize) -> u8
-    ensures { λ r. ⌜ r ≡ getD (now (front .entry) ++ now (back .entry)) place 48 ⌝ }
+// The digit at an index among the digits before and after the point: "0" past the last.
+fn digit_at(front: &[u8], back: &[u8], index: usize) -> u8
+    ensures { λ r. ⌜ r ≡ getD (now (front .entry) ++ now (back .entry)) index digitZero ⌝ }
 {
     let n = front.len();
-    if place < n {
-        return front[place];
+    if index < n {
+        return front[index];
     }
-    let k = place - n;
+    let k = index - n;
     if k < back.len() {
         return back[k];
     }
-    48
+    b'0'
 }
 
-// One digit more behind a number, which stops at the cap.
+// The number with one digit more at its end, at most CAP.
 fn grown(value: u64, digit: u8) -> u64
     requires { ⌜ (value ≤ cap) × (digit ≤ 9) ⌝ }
     ensures { λ r. ⌜ r ≡ min cap (value * 10 + digit) ⌝ }
@@ -70,32 +76,32 @@ fn grown(value: u64, digit: u8) -> u64
     CAP
 }
 
-// The number that the digits before a place make, up to the cap.
+// The number that the first `kept` digits write, at most CAP.
 fn whole_part(front: &[u8], back: &[u8], kept: usize) -> u64
     requires { ⌜ allDigits (now front ++ now back) ≡ true ⌝ }
     ensures { λ r. ⌜ r ≡ min cap (places (now (front .entry) ++ now (back .entry)) 0 kept) ⌝ }
 {
     let mut value: u64 = 0;
-    let mut place = 0;
-    while place < kept {
-        let b = digit_at(front, back, place);
-        value = grown(value, b - 48);
-        place += 1;
+    let mut index = 0;
+    while index < kept {
+        let b = digit_at(front, back, index);
+        value = grown(value, b - b'0');
+        index += 1;
     }
     value
 }
 
-// Whether every digit from a place on is 0.
+// Whether every digit from the index `from` on is "0".
 fn zero_from(front: &[u8], back: &[u8], from: usize) -> bool
     requires { ⌜ length (now front) + length (now back) ≤ digitLimit ⌝ }
     ensures { λ r. ⌜ r ≡ allZero (drop from (now (front .entry) ++ now (back .entry))) ⌝ }
 {
     let n = front.len() + back.len();
-    let mut place = from;
-    while place < n {
-        let b = digit_at(front, back, place);
-        if b == 48 {
-            place += 1;
+    let mut index = from;
+    while index < n {
+        let b = digit_at(front, back, index);
+        if b == b'0' {
+            index += 1;
         } else {
             return false;
         }
@@ -103,7 +109,8 @@ fn zero_from(front: &[u8], back: &[u8], from: usize) -> bool
     true
 }
 
-// The digits before and after the point, which moves up and down by places, as a quantity.
+// The number with these digits before and after the point, once the point has moved `up` digits to the right and `down`
+// to the left.
 fn scaled(front: &[u8], back: &[u8], negative: bool, up: usize, down: usize) -> Quantity
     requires { ⌜ (allDigits (now front ++ now back) ≡ true)
         × (length (now front) + length (now back) ≤ digitLimit) × (up ≤ upMost) ⌝ }
@@ -126,12 +133,12 @@ fn scaled(front: &[u8], back: &[u8], negative: bool, up: usize, down: usize) -> 
     Quantity {
         negative,
         whole,
-        half: 53 <= next,
+        half: b'5' <= next,
         exact: none,
     }
 }
 
-// The digits before and after the point: 1 to 15 in all.
+// The same of any bytes: no number unless they are digits, at least one and at most DIGIT_LIMIT.
 fn read_digits(front: &[u8], back: &[u8], negative: bool, up: usize, down: usize) -> Reading
     requires { ⌜ up ≤ upMost ⌝ }
     ensures { λ r. ⌜ r ≡ digitsOf negative (now (front .entry)) (now (back .entry)) up down ⌝ }
@@ -154,12 +161,12 @@ fn read_digits(front: &[u8], back: &[u8], negative: bool, up: usize, down: usize
     Reading::NotNumber
 }
 
-// The text before the E: digits with at most one point.
+// The text before "E", divided at its point.
 fn read_mantissa(m: &[u8], negative: bool, up: usize, down: usize) -> Reading
     requires { ⌜ up ≤ upMost ⌝ }
     ensures { λ r. ⌜ r ≡ mantissaOf negative (now (m .entry)) up down ⌝ }
 {
-    let p = divide::span_of(m, 46);
+    let p = divide::span_of(m, b'.');
     if p < m.len() {
         let start = p + 1;
         return read_digits(&m[..p], &m[start..], negative, up, down);
@@ -167,6 +174,7 @@ fn read_mantissa(m: &[u8], negative: bool, up: usize, down: usize) -> Reading
     read_digits(m, &m[p..], negative, up, down)
 }
 
+// One or two digits as a number.
 fn short_number(t: &[u8]) -> Short
     ensures { λ r. ⌜ (r ≡ shortOf (now (t .entry))) × TwoDigits r ⌝ }
 {
@@ -179,15 +187,16 @@ fn short_number(t: &[u8]) -> Short
     }
     let all = all_digits(t);
     if all {
-        let first = (t[0] - 48) as usize;
+        let first = (t[0] - b'0') as usize;
         if n == 1 {
             return Short::Of(first);
         }
-        return Short::Of(first * 10 + (t[1] - 48) as usize);
+        return Short::Of(first * 10 + (t[1] - b'0') as usize);
     }
     Short::Long
 }
 
+// An exponent with no minus: the point moves to the right.
 fn raised(s: Short) -> Exponent
     ensures { λ r. ⌜ r ≡ raisedBy s ⌝ }
 {
@@ -197,6 +206,7 @@ fn raised(s: Short) -> Exponent
     }
 }
 
+// An exponent with a minus: the point moves to the left.
 fn lowered(s: Short) -> Exponent
     ensures { λ r. ⌜ r ≡ loweredBy s ⌝ }
 {
@@ -206,7 +216,7 @@ fn lowered(s: Short) -> Exponent
     }
 }
 
-// The text behind the E: an optional sign and one or two digits.
+// The text after "E": a sign or none, then one digit or two.
 fn read_exponent(x: &[u8]) -> Exponent
     ensures { λ r. ⌜ (r ≡ exponentOf (now (x .entry))) × Bounded r ⌝ }
 {
@@ -214,21 +224,21 @@ fn read_exponent(x: &[u8]) -> Exponent
         return Exponent::Wrong;
     }
     let b = x[0];
-    if b == 45 {
+    if b == b'-' {
         return lowered(short_number(&x[1..]));
     }
-    if b == 43 {
+    if b == b'+' {
         return raised(short_number(&x[1..]));
     }
     raised(short_number(x))
 }
 
-// The text after the sign.
+// A number's text after its sign, in units of 10^-decimals.
 fn read_unsigned(u: &[u8], negative: bool, decimals: usize) -> Reading
     requires { ⌜ decimals ≤ 255 ⌝ }
     ensures { λ r. ⌜ r ≡ unsignedOf negative (now (u .entry)) decimals ⌝ }
 {
-    let e = divide::span_of(u, 69);
+    let e = divide::span_of(u, b'E');
     if e < u.len() {
         let start = e + 1;
         let Exponent::Power(up, down) = read_exponent(&u[start..]) else {
@@ -239,7 +249,7 @@ fn read_unsigned(u: &[u8], negative: bool, decimals: usize) -> Reading
     read_mantissa(u, negative, decimals, 0)
 }
 
-// A text as a number in units of which 10 to the power of decimals make one.
+// A text as a number, in units of 10^-decimals.
 pub fn read(text: &[u8], decimals: u8) -> Reading
     ensures { λ r. ⌜ r ≡ readOf decimals (now (text .entry)) ⌝ }
 {
@@ -247,10 +257,10 @@ pub fn read(text: &[u8], decimals: u8) -> Reading
         return Reading::NotNumber;
     }
     let b = text[0];
-    if b == 45 {
+    if b == b'-' {
         return read_unsigned(&text[1..], true, decimals as usize);
     }
-    if b == 43 {
+    if b == b'+' {
         return read_unsigned(&text[1..], false, decimals as usize);
     }
     read_unsigned(text, false, decimals as usize)

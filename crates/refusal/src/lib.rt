@@ -1,73 +1,90 @@
-// The refusals of document 01, with the number and the standard event bit of each; a line's answer, its first refusal, and what is told of it.
+// The refusals of document 01, with the number and the standard event bit of each; a line's answer, its first refusal,
+// and what a call reports.
 ghost use mathlib.Core.Path.{_≡_};
 ghost use Rattle.refusal.specs.Meaning.{meaningOf, numberOf};
 ghost use Rattle.refusal.specs.Answer.{firstOf, isNoRoom, drops, numbersOf};
 
 // Why a command, a line, an event, a script or a state is not taken.
 pub enum Refusal {
-    // No command here: unknown name, wrong form, count or number text, "?" missing or unwanted.
+    // 1: no such name, the name in another form, another count of arguments, or an argument that is no number.
     Malformed,
-    // A value out of range or not whole.
+    // 2: an argument out of its range, or not whole where it must be.
     OutOfRange,
-    // Not allowed in this state.
+    // 3: a command that this state does not allow.
     NotAllowed,
-    // The reply exceeds the room left.
+    // 4: a reply longer than the room left.
     NoRoom,
-    // A line over 256 bytes.
+    // 5: a line of more bytes than a line may have.
     LongLine,
-    // An event value that is not legal.
+    // 6: an event whose value is not legal.
     BadEvent,
-    // A script that does not begin with *RST.
+    // 7: a script whose first command is not *RST.
     NoReset,
-    // A script line over 256 bytes.
+    // 8: a script's line of more bytes than a line may have.
     LongScriptLine,
-    // Traces unequal, empty, over 16383, or not the state's capacity.
+    // 9: traces whose lengths differ, are no capacity that there is, or are not the capacity of the state.
     BadTraces,
-    // At start, a serial over 99999 or an unknown port.
+    // 10: a start with a serial number over 99999 or a port that there is not.
     BadStart,
-    // A state outside the ranges, steps and limits.
+    // 11: a state with a value outside its range, step or limit.
     BadState,
 }
 
-// What is told of a command, a line, an event or a start: done, or refused.
+// What came of a command, an event, a start or a poll.
 pub enum Outcome {
+    // It was done.
     Done,
+    // It was refused, for this reason.
     Refused(Refusal),
 }
 
-// A line's answer: nothing refused, or the first refusal and the place of its command, from 1.
+// A line's answer.
 pub enum Answer {
+    // No command was refused.
     Passed,
+    // The first refusal, and the place of its command, from 1; place 0 where the line itself was refused.
     Refused(Refusal, u32),
 }
 
-// What is told of a line: its first refusal and place, if any, and the length of its reply.
+// What a call with a line or a byte reports.
 pub struct Told {
+    // The line's answer.
     pub answer: Answer,
+    // The length of its reply.
     pub length: usize,
 }
 
-// The same in numbers: 0 where nothing is refused.
+// The same in numbers.
 pub struct Numbers {
+    // The refusal's number, 0 where nothing is refused.
     pub refusal: u8,
+    // The place of the refused command, 0 where nothing is refused.
     pub place: u32,
+    // The length of the reply.
     pub length: usize,
 }
 
-// The number that the papers give a refusal, and the standard event bits that it sets.
+// What a refusal is outside: its number, and its mark in the standard event register.
 pub struct Meaning {
+    // Its number in document 01.
     pub number: u8,
+    // The standard event bits that it sets.
     pub bits: u8,
 }
 
-const INP: u8 = 1;
+// Standard event bit 0, input: a line that is too long.
+const INP: u8 = 0x01;
 
-const QRY: u8 = 4;
+// Standard event bit 2, query: a reply without room.
+const QRY: u8 = 0x04;
 
-const EXE: u8 = 16;
+// Standard event bit 4, execution: a command that cannot be done.
+const EXE: u8 = 0x10;
 
-const CMD: u8 = 32;
+// Standard event bit 5, command: a text that is no command.
+const CMD: u8 = 0x20;
 
+// The number and the standard event bits of a refusal.
 pub fn meaning_of(refusal: Refusal) -> Meaning
     ensures { λ r. ⌜ r ≡ meaningOf refusal ⌝ }
 {
@@ -107,7 +124,7 @@ pub fn meaning_of(refusal: Refusal) -> Meaning
     }
 }
 
-// The number that is told: 0 where nothing is refused.
+// The number of an outcome: the refusal's, 0 where nothing is refused.
 pub fn number_of(outcome: Outcome) -> u8
     ensures { λ r. ⌜ r ≡ numberOf outcome ⌝ }
 {
@@ -120,7 +137,7 @@ pub fn number_of(outcome: Outcome) -> u8
     }
 }
 
-// The answer once a command at a place has come to an outcome.
+// A line's answer once its command at `place` has come to an outcome: the first refusal stays.
 pub fn first_of(answer: Answer, outcome: Outcome, place: u32) -> Answer
     ensures { λ r. ⌜ r ≡ firstOf answer outcome place ⌝ }
 {
@@ -133,6 +150,7 @@ pub fn first_of(answer: Answer, outcome: Outcome, place: u32) -> Answer
     }
 }
 
+// Whether it is refusal 4.
 fn is_no_room(refusal: Refusal) -> bool
     ensures { λ r. ⌜ r ≡ isNoRoom refusal ⌝ }
 {
@@ -161,7 +179,7 @@ pub fn drops(outcome: Outcome) -> bool
     }
 }
 
-// The numbers of what is told.
+// A report in numbers.
 pub fn numbers_of(told: Told) -> Numbers
     ensures { λ r. ⌜ r ≡ numbersOf told ⌝ }
 {

@@ -1,4 +1,5 @@
--- A byte's bits: bit i has the weight 2 ^ i. The union of two bytes' bits is `bitOr` of lib.Bits, the bits that they have in common `bitAnd`. Assumes nothing.
+-- A byte's bits: bit i has the weight 2 ^ i. The union of two bytes' bits is `bitOr` of lib.Bits, the bits that they
+-- have in common `bitAnd`. Assumes nothing.
 use Prim.Native.Nat.{ℕ, _-_, _*_, _/_, _%_, _^_, _≤_, _<_, min, max}
 use mathlib.Core.Bool.{Bool, true, false, cond, not}
 use mathlib.Core.Path.{_≡_}
@@ -9,23 +10,27 @@ use lib.Bits.{bitAnd, bitOr}
 unfoldable pub bitOf : ℕ → ℕ → ℕ
 bitOf x i = x / 2 ^ i % 2
 
--- x with bit i cleared: its weight is taken off where it is set
+-- x with bit i cleared: less its weight where it is set
 unfoldable pub withoutBit : ℕ → ℕ → ℕ
 withoutBit x i = x - bitOf x i * 2 ^ i
 
+-- how many bits a byte has
+abbrev pub byteBits : ℕ
+byteBits = 8
+
 -- the byte x with bit i cleared where the value is 0, else set; there is no bit past 7
 unfoldable pub withBit : ℕ → ℕ → ℕ → ℕ
-withBit x i value = cond (ltb i 8) (cond (eqb value 0) (withoutBit x i) (bitOr x (2 ^ i))) x
+withBit x i value = cond (ltb i byteBits) (cond (eqb value 0) (withoutBit x i) (bitOr x (2 ^ i))) x
 
--- some bit is set in both
+-- whether some bit is set in both
 unfoldable pub meets : ℕ → ℕ → Bool
 meets x y = not (eqb (bitAnd x y) 0)
 
--- no bit of x is set but those of the mask
+-- whether no bit of x is set but bits of the mask
 unfoldable pub only : ℕ → ℕ → Bool
 only mask x = eqb (bitAnd x mask) x
 
--- bit i where the test holds
+-- the weight of bit i where the test holds, else 0
 unfoldable pub flag : Bool → ℕ → ℕ
 flag test i = cond test (2 ^ i) 0
 
@@ -33,7 +38,7 @@ flag test i = cond test (2 ^ i) 0
 pub record BitByBit : Type 0 where
   -- a bit is 0 or 1, a byte has none past bit 7, and two numbers of the same bits are one
   pub below : (x i : ℕ) → bitOf x i < 2
-  pub past : (x i : ℕ) → x < 256 → 8 ≤ i → bitOf x i ≡ 0
+  pub past : (x i : ℕ) → x < 2 ^ byteBits → byteBits ≤ i → bitOf x i ≡ 0
   pub same : (x y : ℕ) → ((i : ℕ) → bitOf x i ≡ bitOf y i) → x ≡ y
   -- in the union a bit is set where it is in one of the two, in what they have in common where it is in both
   pub union : (x y i : ℕ) → bitOf (bitOr x y) i ≡ max (bitOf x i) (bitOf y i)
@@ -45,8 +50,8 @@ pub record BitByBit : Type 0 where
   pub cleared : (x i : ℕ) → bitOf (withoutBit x i) i ≡ 0
   pub cleared-other : (x i j : ℕ) → (i ≡ j → ⊥) → bitOf (withoutBit x i) j ≡ bitOf x j
   -- a bit of a byte that is given a value is 0 for the value 0, else 1, and every other is as it was
-  pub given-none : (x i : ℕ) → i < 8 → bitOf (withBit x i 0) i ≡ 0
-  pub given-some : (x i value : ℕ) → i < 8 → (value ≡ 0 → ⊥) → bitOf (withBit x i value) i ≡ 1
+  pub given-none : (x i : ℕ) → i < byteBits → bitOf (withBit x i 0) i ≡ 0
+  pub given-some : (x i value : ℕ) → i < byteBits → (value ≡ 0 → ⊥) → bitOf (withBit x i value) i ≡ 1
   pub given-other : (x i value j : ℕ) → (i ≡ j → ⊥) → bitOf (withBit x i value) j ≡ bitOf x j
   -- two bytes do not meet exactly where no bit is set in both
   pub apart : (x y : ℕ) → meets x y ≡ false → (i : ℕ) → min (bitOf x i) (bitOf y i) ≡ 0

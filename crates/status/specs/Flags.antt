@@ -22,11 +22,11 @@ tests r e p =
     ∷ meets (otherBits r e p) (e .service)  -- 6: one of the bits above is set and enabled by *SRE
     ∷ []
 
--- a test as a bit
+-- a test as a bit: 1 where it holds, else 0
 abbrev pub digit : Bool → ℕ
 digit t = cond t 1 0
 
--- each bit of the status byte is set exactly where its test holds; past 6 none is
+-- each bit of the status byte is set exactly where its test holds, and no bit past 6 is set
 abbrev pub StatusBits : Type 0
 StatusBits = (r : Registers) (e : Enables) (p : Poll) (i : ℕ) →
     bitOf (statusByte r e p) i ≡ digit (getD (tests r e p) i false)

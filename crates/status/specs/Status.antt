@@ -9,114 +9,126 @@ use Rattle.status.specs.declared.Registers.{Registers}
 use Rattle.status.specs.declared.Enables.{Enables}
 use Rattle.status.specs.declared.Poll.{Poll}
 
--- "7 PON (the only one set at start; the LIA and ERR registers start at 0)"
+-- PON, power on: standard event bit 7
 abbrev pub pon : ℕ
 pon = 2 ^ 7
 
+-- the event registers at start: only PON is set
 abbrev pub startRegisters : Registers
 startRegisters = record { standard = pon; lia = 0; errors = 0 }
 
--- "all start at 0"
+-- the enables at start: nothing is enabled
 abbrev pub startEnables : Enables
 startEnables = record { standard = 0; service = 0; lia = 0; errors = 0 }
 
--- an event register; the service register is none
+-- an event register; the service register is no event register, and counts as 0
 unfoldable pub registerOf : Registers → Register → ℕ
 registerOf r Standard = r .standard
 registerOf r Service = 0
 registerOf r Lia = r .lia
 registerOf r Errors = r .errors
 
+-- the event registers with x in one of them
 unfoldable pub withRegister : Registers → Register → ℕ → Registers
 withRegister r Standard x = record { standard = x; lia = r .lia; errors = r .errors }
 withRegister r Service x = r
 withRegister r Lia x = record { standard = r .standard; lia = x; errors = r .errors }
 withRegister r Errors x = record { standard = r .standard; lia = r .lia; errors = x }
 
--- "*ESR?, LIAS? and ERRS? reply and clear"
+-- the event registers after the query of one of them, which clears it
 unfoldable pub clearedOf : Registers → Register → Registers
 clearedOf r which = withRegister r which 0
 
--- "with an argument i (0-7) only bit i"
+-- the event registers after the query of bit i of one of them, which clears that bit only
 unfoldable pub bitCleared : Registers → Register → ℕ → Registers
 bitCleared r which i = withRegister r which (withoutBit (registerOf r which) i)
 
--- "*CLS clears the three event registers."
+-- the event registers after *CLS
 abbrev pub allCleared : Registers
 allCleared = record { standard = 0; lia = 0; errors = 0 }
 
--- bits that a refusal sets
+-- the event registers with standard event bits set, as a refusal sets them
 abbrev pub withStandard : Registers → ℕ → Registers
 withStandard r bits = record { standard = bitOr (r .standard) bits; lia = r .lia; errors = r .errors }
 
--- bits that a crossing of 200 Hz, a trigger or a measured frequency sets
+-- the event registers with LIA bits set, as a crossing of 200 Hz, a trigger or a measured frequency sets them
 abbrev pub withLia : Registers → ℕ → Registers
 withLia r bits = record { standard = r .standard; lia = bitOr (r .lia) bits; errors = r .errors }
 
--- "raised bits (LIA 0-3; ERR 1, 2, 4-7)"
+-- the LIA bits that an event may raise
 abbrev pub liaRaised : ℕ
 liaRaised = 2 ^ 0 + 2 ^ 1 + 2 ^ 2 + 2 ^ 3
 
+-- the ERR bits that an event may raise
 abbrev pub errorsRaised : ℕ
 errorsRaised = 2 ^ 1 + 2 ^ 2 + (2 ^ 4 + 2 ^ 5 + 2 ^ 6 + 2 ^ 7)
 
+-- whether an event may raise these LIA and ERR bits
 unfoldable pub mayRaise : ℕ → ℕ → Bool
 mayRaise lia errors = only liaRaised lia && only errorsRaised errors
 
+-- the event registers with the bits set that an event raises
 abbrev pub withRaised : Registers → ℕ → ℕ → Registers
 withRaised r lia errors = record { standard = r .standard; lia = bitOr (r .lia) lia; errors = bitOr (r .errors) errors }
 
--- *ESE, *SRE, LIAE and ERRE
+-- the enable of a register: *ESE, *SRE, LIAE or ERRE
 unfoldable pub enableOf : Enables → Register → ℕ
 enableOf e Standard = e .standard
 enableOf e Service = e .service
 enableOf e Lia = e .lia
 enableOf e Errors = e .errors
 
--- "*SRE bit 6 stays 0."
+-- the *SRE bit that stays 0
+abbrev pub serviceBit : ℕ
+serviceBit = 6
+
+-- the enables with the byte x in one of them, bit 6 of *SRE left out
 unfoldable pub withEnableByte : Enables → Register → ℕ → Enables
 withEnableByte e Standard x = record { standard = x; service = e .service; lia = e .lia; errors = e .errors }
-withEnableByte e Service x = record { standard = e .standard; service = withoutBit x 6; lia = e .lia; errors = e .errors }
+withEnableByte e Service x =
+    record { standard = e .standard; service = withoutBit x serviceBit; lia = e .lia; errors = e .errors }
 withEnableByte e Lia x = record { standard = e .standard; service = e .service; lia = x; errors = e .errors }
 withEnableByte e Errors x = record { standard = e .standard; service = e .service; lia = e .lia; errors = x }
 
--- "*ESE, *SRE, LIAE and ERRE take one value 0-255"
+-- the enables with one set to a value, of which only the low byte counts
 unfoldable pub withEnable : Enables → Register → ℕ → Enables
-withEnable e which value = withEnableByte e which (value % 256)
+withEnable e which value = withEnableByte e which (value % 0x100)
 
--- "or bit 0-7 and 0 or 1"
+-- the enables with bit i of one set, or cleared where the value is 0
 unfoldable pub withEnableBit : Enables → Register → ℕ → ℕ → Enables
 withEnableBit e which i value = withEnableByte e which (withBit (enableOf e which) i value)
 
--- "0 storage reset or done; 1 no command running; 2, 3, 5 an enabled ERR, LIA, standard bit is set; 4 reply bytes of this line already waiting"
+-- bits 0 to 5 of the status byte: 2, 3 and 5 where some bit of a register is set and enabled, the others as polled
 unfoldable pub otherBits : Registers → Enables → Poll → ℕ
 otherBits r e p =
     flag (p .«at_rest») 0
     + flag (p .idle) 1
-    + (flag (meets (r .errors) (e .errors)) 2 + flag (meets (r .lia) (e .lia)) 3 + flag (meets (r .standard) (e .standard)) 5)
+    + (flag (meets (r .errors) (e .errors)) 2
+    + flag (meets (r .lia) (e .lia)) 3
+    + flag (meets (r .standard) (e .standard)) 5)
     + flag (p .waiting) 4
 
--- "6 some other bit is set and enabled in *SRE; 7 zero"
+-- the status byte: bit 6 tells that *SRE enables one of the bits below it; bit 7 is 0
 unfoldable pub statusByte : Registers → Enables → Poll → ℕ
 statusByte r e p = otherBits r e p + flag (meets (otherBits r e p) (e .service)) 6
 
--- the bits of an event register that no event has: of the standard one all but "0 INP, 2 QRY, 4 EXE, 5 CMD, 6 URQ, 7 PON",
+-- the standard event bits that nothing sets: all but INP, QRY, EXE, CMD, URQ and PON
 abbrev pub standardUnused : ℕ
 standardUnused = 2 ^ 1 + 2 ^ 3
 
--- of LIA all but those raised, 4 and 5 of a crossing of 200 Hz and 6 of a trigger,
+-- the LIA bit that nothing sets: an event raises 0 to 3, a crossing of 200 Hz sets 4 and 5, a trigger 6
 abbrev pub liaUnused : ℕ
 liaUnused = 2 ^ 7
 
--- and of ERR all but those raised
+-- the ERR bits that nothing sets: an event raises the others
 abbrev pub errorsUnused : ℕ
 errorsUnused = 2 ^ 0 + 2 ^ 3
 
--- *SRE bit 6
+-- the mask of the *SRE bit that stays 0
 abbrev pub serviceUnused : ℕ
-serviceUnused = 2 ^ 6
+serviceUnused = 2 ^ serviceBit
 
--- refusal 11's part, "a state outside the ranges .. and limits above": unused bits of the event registers and *SRE bit 6 are 0
+-- whether a state may have these registers and enables, their part of refusal 11: no bit is set that nothing sets
 unfoldable pub keepsOf : Registers → Enables → Bool
 keepsOf r e =
     not (meets (r .standard) standardUnused)

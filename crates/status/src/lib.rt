@@ -3,52 +3,69 @@ ghost use mathlib.Core.Path.{_≡_};
 ghost use lib.Bits.{bitOr};
 ghost use Prim.Native.Nat.{_<_};
 ghost use Rattle.status.specs.Bits.{bitOf, withoutBit, withBit, meets, only, flag};
-ghost use Rattle.status.specs.Status.{startRegisters, startEnables, registerOf, withRegister, clearedOf, bitCleared, allCleared, withStandard, withLia, withRaised, mayRaise, enableOf, withEnableByte, withEnable, withEnableBit, otherBits, statusByte, keepsOf};
+ghost use Rattle.status.specs.Status.{startRegisters, registerOf, withRegister, clearedOf, bitCleared};
+ghost use Rattle.status.specs.Status.{allCleared, withStandard, withLia, withRaised, mayRaise};
+ghost use Rattle.status.specs.Status.{startEnables, enableOf, withEnableByte, withEnable, withEnableBit};
+ghost use Rattle.status.specs.Status.{otherBits, statusByte, keepsOf};
 use name::Register;
 
-// The standard event bit set at start.
-const PON: u8 = 128;
+// PON, power on: standard event bit 7, the one that is set at start.
+const PON: u8 = 0x80;
 
-// The bits that an event may raise: LIA 0 to 3; ERR 1, 2 and 4 to 7.
-const LIA_RAISED: u8 = 15;
+// The LIA bits that an event may raise: 0 to 3.
+const LIA_RAISED: u8 = 0x0F;
 
-const ERRORS_RAISED: u8 = 246;
+// The ERR bits that an event may raise: 1, 2 and 4 to 7.
+const ERRORS_RAISED: u8 = 0xF6;
 
-// The bits that no event sets: standard 1 and 3, LIA 7, ERR 0 and 3.
-const STANDARD_UNUSED: u8 = 10;
+// The standard event bits that nothing sets: 1 and 3.
+const STANDARD_UNUSED: u8 = 0x0A;
 
-const LIA_UNUSED: u8 = 128;
+// The LIA bit that nothing sets: 7.
+const LIA_UNUSED: u8 = 0x80;
 
-const ERRORS_UNUSED: u8 = 9;
+// The ERR bits that nothing sets: 0 and 3.
+const ERRORS_UNUSED: u8 = 0x09;
 
-// The bit of *SRE that stays 0, and its mask.
+// The number of the *SRE bit that stays 0.
 const SERVICE_BIT: u32 = 6;
 
-const SERVICE_UNUSED: u8 = 64;
+// The mask of the *SRE bit that stays 0.
+const SERVICE_UNUSED: u8 = 0x40;
 
 // The event registers.
 pub struct Registers {
+    // What *ESR? replies.
     pub standard: u8,
+    // What LIAS? replies.
     pub lia: u8,
+    // What ERRS? replies.
     pub errors: u8,
 }
 
-// What *ESE, *SRE, LIAE and ERRE hold.
+// The enables: which bits of a register set a bit of the status byte.
 pub struct Enables {
+    // *ESE, for the standard event register.
     pub standard: u8,
+    // *SRE, for the status byte itself.
     pub service: u8,
+    // LIAE, for the LIA register.
     pub lia: u8,
+    // ERRE, for the ERR register.
     pub errors: u8,
 }
 
-// What of the status byte is not read from registers: storage reset or done; no command running; reply bytes of this line already waiting.
+// The bits of the status byte that no register gives.
 pub struct Poll {
+    // Storage is reset or done.
     pub at_rest: bool,
+    // No command is running.
     pub idle: bool,
+    // Reply bytes of this line are waiting already.
     pub waiting: bool,
 }
 
-// A byte with more bits set.
+// A byte with the bits of `bits` set too.
 pub fn with_bits(x: u8, bits: u8) -> u8
     ensures { λ r. ⌜ r ≡ bitOr x bits ⌝ }
 {
@@ -65,7 +82,7 @@ pub fn bit_of(x: u8, bit: u32) -> u8
     0
 }
 
-// A byte with a bit cleared, the others kept.
+// A byte with one bit cleared and the others as they are.
 pub fn without_bit(x: u8, bit: u32) -> u8
     ensures { λ r. ⌜ r ≡ withoutBit x bit ⌝ }
 {
@@ -95,7 +112,7 @@ fn common(x: u8, y: u8) -> bool
     x & y != 0
 }
 
-// Whether no bit is set but those of a mask.
+// Whether no bit is set but bits of `mask`.
 fn only_of(mask: u8, x: u8) -> bool
     ensures { λ r. ⌜ r ≡ only mask x ⌝ }
 {
@@ -103,7 +120,7 @@ fn only_of(mask: u8, x: u8) -> bool
 }
 
 impl Registers {
-    // At start only PON is set.
+    // The event registers at start: only PON is set.
     pub fn start() -> Registers
         ensures { λ r. ⌜ r ≡ startRegisters ⌝ }
     {
@@ -116,7 +133,7 @@ impl Registers {
 }
 
 impl Enables {
-    // At start nothing is enabled.
+    // The enables at start: nothing is enabled.
     pub fn start() -> Enables
         ensures { λ r. ⌜ r ≡ startEnables ⌝ }
     {
@@ -129,7 +146,7 @@ impl Enables {
     }
 }
 
-// An event register, 0 for the service register, which is none.
+// The event register `which`; 0 for the service register, which is no event register.
 pub fn register_of(r: Registers, which: Register) -> u8
     ensures { λ x. ⌜ x ≡ registerOf r which ⌝ }
 {
@@ -141,7 +158,7 @@ pub fn register_of(r: Registers, which: Register) -> u8
     }
 }
 
-// The event registers with another value in one of them.
+// The event registers with `value` in the register `which`.
 fn with_register(r: Registers, which: Register, value: u8) -> Registers
     ensures { λ x. ⌜ x ≡ withRegister r which value ⌝ }
 {
@@ -165,14 +182,14 @@ fn with_register(r: Registers, which: Register, value: u8) -> Registers
     }
 }
 
-// The event registers with one cleared, as its query does.
+// The event registers with one cleared, as its query leaves them.
 pub fn cleared(r: Registers, which: Register) -> Registers
     ensures { λ x. ⌜ x ≡ clearedOf r which ⌝ }
 {
     with_register(r, which, 0)
 }
 
-// The event registers with one bit of one cleared, as its query with a bit does.
+// The event registers with one bit of one cleared, as its query with a bit leaves them.
 pub fn bit_cleared(r: Registers, which: Register, bit: u32) -> Registers
     ensures { λ x. ⌜ x ≡ bitCleared r which bit ⌝ }
 {
@@ -180,7 +197,7 @@ pub fn bit_cleared(r: Registers, which: Register, bit: u32) -> Registers
     with_register(r, which, without_bit(value, bit))
 }
 
-// The event registers after *CLS.
+// The event registers after *CLS: no bit is set.
 pub fn all_cleared() -> Registers
     ensures { λ x. ⌜ x ≡ allCleared ⌝ }
 {
@@ -213,7 +230,7 @@ pub fn with_lia(r: Registers, bits: u8) -> Registers
     }
 }
 
-// The event registers with raised bits set.
+// The event registers with the bits set that an event raises.
 pub fn with_raised(r: Registers, lia: u8, errors: u8) -> Registers
     ensures { λ x. ⌜ x ≡ withRaised r lia errors ⌝ }
 {
@@ -224,7 +241,7 @@ pub fn with_raised(r: Registers, lia: u8, errors: u8) -> Registers
     }
 }
 
-// Whether an event may raise the bits.
+// Whether an event may raise these LIA and ERR bits.
 pub fn may_raise(lia: u8, errors: u8) -> bool
     ensures { λ r. ⌜ r ≡ mayRaise lia errors ⌝ }
 {
@@ -234,7 +251,7 @@ pub fn may_raise(lia: u8, errors: u8) -> bool
     false
 }
 
-// What *ESE, *SRE, LIAE or ERRE holds.
+// The enable of the register `which`: *ESE, *SRE, LIAE or ERRE.
 pub fn enable_of(e: Enables, which: Register) -> u8
     ensures { λ x. ⌜ x ≡ enableOf e which ⌝ }
 {
@@ -246,7 +263,7 @@ pub fn enable_of(e: Enables, which: Register) -> u8
     }
 }
 
-// The enables with another byte in one of them, *SRE without bit 6.
+// The enables with `byte` in one of them, bit 6 of *SRE left out.
 fn with_enable_byte(e: Enables, which: Register, byte: u8) -> Enables
     ensures { λ x. ⌜ x ≡ withEnableByte e which byte ⌝ }
 {
@@ -278,15 +295,15 @@ fn with_enable_byte(e: Enables, which: Register, byte: u8) -> Enables
     }
 }
 
-// The enables with a value set whole, by its low byte.
+// The enables with one set to the low byte of `value`.
 pub fn with_enable(e: Enables, which: Register, value: u32) -> Enables
     ensures { λ x. ⌜ x ≡ withEnable e which value ⌝ }
 {
-    let byte = (value % 256) as u8;
+    let byte = (value % 0x100) as u8;
     with_enable_byte(e, which, byte)
 }
 
-// The enables with one bit set or cleared.
+// The enables with one bit of one set, or cleared where `value` is 0.
 pub fn with_enable_bit(e: Enables, which: Register, bit: u32, value: u32) -> Enables
     ensures { λ x. ⌜ x ≡ withEnableBit e which bit value ⌝ }
 {
@@ -294,7 +311,7 @@ pub fn with_enable_bit(e: Enables, which: Register, bit: u32, value: u32) -> Ena
     with_enable_byte(e, which, with_bit(byte, bit, value))
 }
 
-// A bit where a test holds, else nothing.
+// The weight of a bit where a test holds, else 0.
 fn flag_of(test: bool, bit: u32) -> u8
     requires { ⌜ bit < 8 ⌝ }
     ensures { λ r. ⌜ r ≡ flag test bit ⌝ }
@@ -318,7 +335,7 @@ fn other_bits(r: Registers, e: Enables, p: Poll) -> u8
     at_rest + idle + errors + lia + waiting + standard
 }
 
-// The status byte.
+// The status byte: bits 0 to 5, and bit 6 where *SRE enables one of them.
 pub fn status_byte(r: Registers, e: Enables, p: Poll) -> u8
     ensures { λ x. ⌜ x ≡ statusByte r e p ⌝ }
 {
@@ -326,7 +343,7 @@ pub fn status_byte(r: Registers, e: Enables, p: Poll) -> u8
     other + flag_of(common(other, e.service), 6)
 }
 
-// Whether a state may have the registers and enables: their part of refusal 11.
+// Whether a state may have these registers and enables: their part of refusal 11.
 pub fn keeps(r: Registers, e: Enables) -> bool
     ensures { λ x. ⌜ x ≡ keepsOf r e ⌝ }
 {

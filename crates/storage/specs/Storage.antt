@@ -1,4 +1,5 @@
--- Storage of points, by document 01, "Storing points": what STRT, PAUS, REST, a tick and a trigger make of it, and which storage a state may hold.
+-- Storage of points, by document 01, "Storing points": what STRT, PAUS, REST, a tick and a trigger make of it, and
+-- which storage a state may have.
 use Prim.Native.Nat.{ℕ, _+_, _-_, _^_, min}
 use mathlib.Core.Bool.{Bool, true, cond, not, _&&_, _||_}
 use lib.Dec.{leb, ltb, eqb}
@@ -8,83 +9,91 @@ use Rattle.storage.specs.declared.Storage.{Storage}
 use Rattle.storage.specs.declared.Sampling.{Sampling}
 use Rattle.storage.specs.declared.Sampled.{Sampled}
 
--- "SRAT 14", at which triggers store
+-- SRAT at which a trigger stores, and no tick
 abbrev pub externalRate : ℕ
 externalRate = 14
 
--- "one shot (SEND 0)"
+-- SEND for one shot: storage is done once it is full
 abbrev pub oneShot : ℕ
 oneShot = 0
 
--- "loop (SEND 1)"
+-- SEND for loop: a full storage goes on, over its oldest points
 abbrev pub loop : ℕ
 loop = 1
 
--- "with TSTR 1 they first act as STRT"
+-- TSTR with which a trigger starts storage
 abbrev pub triggerStarts : ℕ
 triggerStarts = 1
 
--- "LIA bit 6"
+-- LIA bit 6: a trigger set storage running or stored a pair
 abbrev pub bit6 : ℕ
 bit6 = 2 ^ 6
 
--- "Storage is reset, running, paused or done.": four phases, told apart by a number
+-- a number for each phase, by which phases are compared
 abbrev pub number : Phase → ℕ
 number Reset = 0
 number Running = 1
 number Paused = 2
 number Done = 3
 
+-- whether storage is in the phase p
 abbrev pub isIn : Phase → Storage → Bool
 isIn p s = eqb (number (s .phase)) (number p)
 
+-- whether storage is reset
 unfoldable pub isReset : Storage → Bool
 isReset s = isIn Reset s
 
+-- whether storage is running
 unfoldable pub isRunning : Storage → Bool
 isRunning s = isIn Running s
 
+-- whether storage is paused
 unfoldable pub isPaused : Storage → Bool
 isPaused s = isIn Paused s
 
+-- whether storage is done
 unfoldable pub isDone : Storage → Bool
 isDone s = isIn Done s
 
+-- storage with the same points, in the phase p
 abbrev pub inPhase : Phase → Storage → Storage
 inPhase p s = record { phase = p; held = s .held; next = s .next }
 
--- "STRT runs it from reset or paused, ..; in other states STRT and PAUS do nothing."
+-- after STRT: running, if it was reset or paused, else as it was
 unfoldable pub startedOf : Storage → Storage
 startedOf s = cond (isReset s || isPaused s) (inPhase Running s) s
 
--- "PAUS pauses a running one"
+-- after PAUS: paused, if it was running, else as it was
 unfoldable pub pausedOf : Storage → Storage
 pausedOf s = cond (isRunning s) (inPhase Paused s) s
 
--- "REST empties it", and "reset holds none"
+-- after REST: reset, with no point
 abbrev pub emptiedStorage : Storage
 emptiedStorage = record { phase = Reset; held = 0; next = 0 }
 
--- "Status byte: 0 storage reset or done"
+-- reset or done: bit 0 of the status byte
 unfoldable pub atRest : Storage → Bool
 atRest s = isReset s || isDone s
 
--- the slot of the point after: one further, and at the capacity slot 0 again
+-- the slot after a slot: one further, and slot 0 after the last
 unfoldable pub nextSlot : ℕ → ℕ → ℕ
 nextSlot slot capacity = cond (ltb (slot + 1) capacity) (slot + 1) 0
 
--- one point more is held, up to the capacity
+-- how many points are held once one more is stored: at most the capacity
 unfoldable pub heldAfter : ℕ → ℕ → ℕ
 heldAfter held capacity = min (held + 1) capacity
 
+-- whether held points fill the capacity
 abbrev pub isFull : ℕ → ℕ → Bool
 isFull held capacity = leb capacity held
 
--- "full in one shot"
+-- whether held points fill one-shot storage
 unfoldable pub fullInOneShot : ℕ → ℕ → ℕ → Bool
 fullInOneShot held capacity end = eqb end oneShot && isFull held capacity
 
--- "In one shot (SEND 0) the point that fills it makes it done; in loop (SEND 1) the oldest is overwritten."
+-- storage once one more point is stored: the point that fills it in one shot makes it done; in loop it takes the slot
+-- of the oldest
 unfoldable pub storedOf : Storage → ℕ → ℕ → Storage
 storedOf s capacity end =
     record {
@@ -93,31 +102,32 @@ storedOf s capacity end =
       next = nextSlot (s .next) capacity;
     }
 
--- storage after the latest pair is stored, or not
+-- storage once the latest pair is stored, or not
 abbrev pub storing : Bool → Storage → ℕ → ℕ → Storage
 storing stores s capacity end = cond stores (storedOf s capacity end) s
 
--- "A tick stores it if running at any other rate."
+-- whether a tick stores the latest pair: where storage runs at any rate but the external one
 unfoldable pub tickStores : Storage → Sampling → Bool
 tickStores s by = isRunning s && not (eqb (by .rate) externalRate)
 
+-- what a tick does
 unfoldable pub tickedOf : Storage → ℕ → Sampling → Sampled
 tickedOf s capacity by =
     record { storage = storing (tickStores s by) s capacity (by .end); stores = tickStores s by; bits = 0 }
 
--- "with TSTR 1 they first act as STRT"
+-- storage once a trigger has started it, where TSTR says so
 unfoldable pub readiedOf : Storage → Sampling → Storage
 readiedOf s by = cond (eqb (by .start) triggerStarts) (startedOf s) s
 
--- "then, if running at SRAT 14, they store the latest pair"
+-- whether a trigger stores the latest pair: where storage then runs at the external rate
 unfoldable pub triggerStores : Storage → Sampling → Bool
 triggerStores s by = isRunning (readiedOf s by) && eqb (by .rate) externalRate
 
--- "a trigger sets storage running"
+-- whether a trigger sets storage running
 unfoldable pub setsRunning : Storage → Sampling → Bool
 setsRunning s by = not (isRunning s) && isRunning (readiedOf s by)
 
--- "LIA bit 6 is set when a trigger sets storage running or stores a pair."
+-- what a trigger does; LIA bit 6 tells that it did anything
 unfoldable pub triggeredOf : Storage → ℕ → Sampling → Sampled
 triggeredOf s capacity by =
     record {
@@ -126,28 +136,29 @@ triggeredOf s capacity by =
       bits = cond (setsRunning s by || triggerStores s by) bit6 0;
     }
 
--- "Point n since the last emptying, from 0, lies in slot n mod capacity. .. bin 0 is the oldest.": as many slots before the next one as points are held,
--- counted round, so bin j lies in slot (oldest + j) mod capacity
+-- where bin 0, the oldest point, is: as many slots before the next one as points are held, counted round, so that bin j
+-- is in slot (oldest + j) mod capacity
 unfoldable pub oldestOf : Storage → ℕ → ℕ
 oldestOf s capacity = s .next + (capacity - s .held)
 
--- "j+k above SPTS is refused"
+-- whether storage holds count points from a bin on
 unfoldable pub holdsOf : Storage → ℕ → ℕ → Bool
 holdsOf s bin count = leb (bin + count) (s .held)
 
--- "Point n since the last emptying, from 0, lies in slot n mod capacity.": at most the capacity is held, the next slot is one of the capacity's, and it is
--- the number held while storage is not full
+-- at most the capacity is held, the next slot is one of the capacity's, and it is the number held while storage is not
+-- full, since points go to the slots in turn
 unfoldable pub slotsKept : Storage → ℕ → Bool
-slotsKept s capacity = leb (s .held) capacity && ltb (s .next) capacity && (isFull (s .held) capacity || eqb (s .next) (s .held))
+slotsKept s capacity =
+    leb (s .held) capacity && ltb (s .next) capacity && (isFull (s .held) capacity || eqb (s .next) (s .held))
 
--- "Storage is done exactly when it is full in one shot"; the next slot is then 0
+-- storage is done if and only if it is full in one shot; the next slot is then 0
 unfoldable pub doneKept : Storage → ℕ → ℕ → Bool
 doneKept s capacity end = cond (fullInOneShot (s .held) capacity end) (isDone s && eqb (s .next) 0) (not (isDone s))
 
--- "reset holds none"
+-- storage that is reset holds no point
 unfoldable pub resetKept : Storage → Bool
 resetKept s = cond (isReset s) (eqb (s .held) 0) true
 
--- Refusal 11, "a state outside the ranges, steps and limits above", for its storage.
+-- whether a state may have this storage: its part of refusal 11
 unfoldable pub keepsOf : Storage → ℕ → ℕ → Bool
 keepsOf s capacity end = slotsKept s capacity && doneKept s capacity end && resetKept s

@@ -1,33 +1,50 @@
 // Storage of points: its phase, the points held and the slot that the next point goes to.
 ghost use mathlib.Core.Path.{_≡_};
 ghost use lib.ListN.{set};
-ghost use Rattle.storage.specs.Storage.{number, isPaused, emptiedStorage, startedOf, pausedOf, isReset, isRunning, isDone, atRest, nextSlot, heldAfter, fullInOneShot, storedOf};
-ghost use Rattle.storage.specs.Storage.{tickedOf, readiedOf, triggeredOf, oldestOf, holdsOf, slotsKept, doneKept, resetKept, keepsOf};
+ghost use Rattle.storage.specs.Storage.{number, isReset, isRunning, isPaused, isDone, atRest};
+ghost use Rattle.storage.specs.Storage.{emptiedStorage, startedOf, pausedOf, readiedOf, tickedOf, triggeredOf};
+ghost use Rattle.storage.specs.Storage.{nextSlot, heldAfter, fullInOneShot, storedOf, oldestOf, holdsOf};
+ghost use Rattle.storage.specs.Storage.{slotsKept, doneKept, resetKept, keepsOf};
 
+// What storage is doing.
 pub enum Phase {
+    // Empty, and not begun.
     Reset,
+    // Storing points as they come.
     Running,
+    // Held up by PAUS until STRT.
     Paused,
+    // Full in one shot.
     Done,
 }
 
+// Storage of points, the points themselves aside.
 pub struct Storage {
+    // What it is doing.
     pub phase: Phase,
+    // How many points each trace holds.
     pub held: u32,
+    // The slot that the next point goes to.
     pub next: u32,
 }
 
-// The settings that storing goes by: SRAT, SEND and TSTR.
+// The settings that storing goes by.
 pub struct Sampling {
+    // SRAT: the rate, or EXTERNAL_RATE.
     pub rate: u32,
+    // SEND: ONE_SHOT or loop.
     pub end: u32,
+    // TSTR: whether a trigger starts storage.
     pub start: u32,
 }
 
-// What a trigger or a tick does: the storage after it, whether the latest pair is stored (in the slot `next` of the storage before), and the LIA bits that it sets.
+// What a trigger or a tick does.
 pub struct Sampled {
+    // Storage after it.
     pub storage: Storage,
+    // Whether the latest pair is stored, in the slot `next` of the storage before.
     pub stores: bool,
+    // The LIA bits that it sets.
     pub bits: u8,
 }
 
@@ -37,13 +54,13 @@ pub const EXTERNAL_RATE: u32 = 14;
 // SEND for one shot; loop is 1.
 pub const ONE_SHOT: u32 = 0;
 
-// TSTR with which a trigger starts.
+// TSTR with which a trigger starts storage.
 pub const TRIGGER_STARTS: u32 = 1;
 
 // LIA bit 6: a trigger set storage running or stored a pair.
-pub const TRIGGERED: u8 = 64;
+pub const TRIGGERED: u8 = 0x40;
 
-// Storage that REST leaves: reset, with no point.
+// Storage after REST: reset, with no point.
 pub fn emptied() -> Storage
     ensures { λ r. ⌜ r ≡ emptiedStorage ⌝ }
 {
@@ -54,7 +71,7 @@ pub fn emptied() -> Storage
     }
 }
 
-// The phases told apart by a number.
+// A number for each phase, by which phases are compared.
 fn number_of(phase: Phase) -> u8
     ensures { λ r. ⌜ r ≡ number phase ⌝ }
 {
@@ -66,6 +83,7 @@ fn number_of(phase: Phase) -> u8
     }
 }
 
+// Whether storage is reset.
 pub fn is_reset(s: Storage) -> bool
     ensures { λ r. ⌜ r ≡ isReset s ⌝ }
 {
@@ -73,6 +91,7 @@ pub fn is_reset(s: Storage) -> bool
     number_of(phase) == 0
 }
 
+// Whether storage is running.
 pub fn is_running(s: Storage) -> bool
     ensures { λ r. ⌜ r ≡ isRunning s ⌝ }
 {
@@ -80,6 +99,7 @@ pub fn is_running(s: Storage) -> bool
     number_of(phase) == 1
 }
 
+// Whether storage is paused.
 fn is_paused(s: Storage) -> bool
     ensures { λ r. ⌜ r ≡ isPaused s ⌝ }
 {
@@ -87,6 +107,7 @@ fn is_paused(s: Storage) -> bool
     number_of(phase) == 2
 }
 
+// Whether storage is done.
 fn is_done(s: Storage) -> bool
     ensures { λ r. ⌜ r ≡ isDone s ⌝ }
 {
@@ -94,7 +115,7 @@ fn is_done(s: Storage) -> bool
     number_of(phase) == 3
 }
 
-// STRT: runs it from reset or paused.
+// Storage after STRT: running, if it was reset or paused.
 pub fn started(s: Storage) -> Storage
     ensures { λ r. ⌜ r ≡ startedOf s ⌝ }
 {
@@ -108,7 +129,7 @@ pub fn started(s: Storage) -> Storage
     s
 }
 
-// PAUS: pauses a running one.
+// Storage after PAUS: paused, if it was running.
 pub fn paused(s: Storage) -> Storage
     ensures { λ r. ⌜ r ≡ pausedOf s ⌝ }
 {
@@ -129,7 +150,7 @@ pub fn at_rest(s: Storage) -> bool
     is_reset(s) | is_done(s)
 }
 
-// The slot after a slot.
+// The slot after a slot: the first one after the last.
 fn next_slot(slot: u32, capacity: u32) -> u32
     ensures { λ r. ⌜ r ≡ nextSlot slot capacity ⌝ }
 {
@@ -140,7 +161,7 @@ fn next_slot(slot: u32, capacity: u32) -> u32
     0
 }
 
-// The points held after one more.
+// How many points are held once one more is stored.
 fn held_after(held: u32, capacity: u32) -> u32
     ensures { λ r. ⌜ r ≡ heldAfter held capacity ⌝ }
 {
@@ -150,14 +171,14 @@ fn held_after(held: u32, capacity: u32) -> u32
     capacity
 }
 
-// Whether so many points fill it in one shot.
+// Whether `held` points fill one-shot storage.
 fn full_in_one_shot(held: u32, capacity: u32, end: u32) -> bool
     ensures { λ r. ⌜ r ≡ fullInOneShot held capacity end ⌝ }
 {
     (end == ONE_SHOT) & (capacity <= held)
 }
 
-// Storage after one more point.
+// Storage once one more point is stored.
 pub fn stored(s: Storage, capacity: u32, end: u32) -> Storage
     ensures { λ r. ⌜ r ≡ storedOf s capacity end ⌝ }
 {
@@ -174,7 +195,7 @@ pub fn stored(s: Storage, capacity: u32, end: u32) -> Storage
     Storage { phase, held, next }
 }
 
-// A tick: it stores if storage is running at any rate but the external one.
+// What a tick does: it stores if storage is running at any rate but the external one.
 pub fn ticked(s: Storage, capacity: u32, by: Sampling) -> Sampled
     ensures { λ r. ⌜ r ≡ tickedOf s capacity by ⌝ }
 {
@@ -195,7 +216,7 @@ pub fn ticked(s: Storage, capacity: u32, by: Sampling) -> Sampled
     }
 }
 
-// Storage as a trigger finds it once it has acted as STRT, where TSTR says so.
+// Storage once a trigger has started it, where TSTR says so.
 fn readied(s: Storage, by: Sampling) -> Storage
     ensures { λ r. ⌜ r ≡ readiedOf s by ⌝ }
 {
@@ -205,7 +226,7 @@ fn readied(s: Storage, by: Sampling) -> Storage
     s
 }
 
-// A trigger: with TSTR 1 it starts storage; then it stores if storage is running at the external rate.
+// What a trigger does: it starts storage where TSTR says so, then stores if storage is running at the external rate.
 pub fn triggered(s: Storage, capacity: u32, by: Sampling) -> Sampled
     ensures { λ r. ⌜ r ≡ triggeredOf s capacity by ⌝ }
 {
@@ -239,7 +260,7 @@ pub fn triggered(s: Storage, capacity: u32, by: Sampling) -> Sampled
     }
 }
 
-// The place of bin 0: bin j lies in slot (oldest + j) mod capacity.
+// Where bin 0, the oldest point, is: bin j is in slot (oldest + j) mod capacity.
 pub fn oldest(s: Storage, capacity: u32) -> u64
     ensures { λ r. ⌜ r ≡ oldestOf s capacity ⌝ }
 {
@@ -251,14 +272,14 @@ pub fn oldest(s: Storage, capacity: u32) -> u64
     next // every slot is held
 }
 
-// Whether the bins from one on, so many of them, are held.
+// Whether storage holds `count` points from the bin `bin` on.
 pub fn holds(s: Storage, bin: u32, count: u32) -> bool
     ensures { λ r. ⌜ r ≡ holdsOf s bin count ⌝ }
 {
     bin as u64 + count as u64 <= s.held as u64
 }
 
-// Whether the points held and the next slot agree with the capacity.
+// Whether the points held and the next slot fit the capacity, and one another.
 fn slots_kept(s: Storage, capacity: u32) -> bool
     ensures { λ r. ⌜ r ≡ slotsKept s capacity ⌝ }
 {
@@ -266,7 +287,7 @@ fn slots_kept(s: Storage, capacity: u32) -> bool
     (s.held <= capacity) & (s.next < capacity) & agrees
 }
 
-// Whether storage is done exactly if it is full in one shot, and then goes on at slot 0.
+// Whether storage is done exactly if it is full in one shot, and its next slot is then slot 0.
 fn done_kept(s: Storage, capacity: u32, end: u32) -> bool
     ensures { λ r. ⌜ r ≡ doneKept s capacity end ⌝ }
 {
@@ -287,14 +308,14 @@ fn reset_kept(s: Storage) -> bool
     true
 }
 
-// Refusal 11's part: whether a state may hold this storage.
+// Whether a state may have this storage: its part of refusal 11.
 pub fn keeps(s: Storage, capacity: u32, end: u32) -> bool
     ensures { λ r. ⌜ r ≡ keepsOf s capacity end ⌝ }
 {
     slots_kept(s, capacity) & done_kept(s, capacity, end) & reset_kept(s)
 }
 
-// Stores a word in a slot of a trace, where it is there.
+// Stores a word in a slot of a trace, if the trace has that slot.
 fn put(trace: &mut [u32], slot: u32, word: u32)
     ensures { λ r. ⌜ now (trace .exit) ≡ set (now (trace .entry)) slot word ⌝ }
 {
@@ -304,7 +325,7 @@ fn put(trace: &mut [u32], slot: u32, word: u32)
     }
 }
 
-// Stores a pair: each word in the slot of its trace, where it is there.
+// Stores a pair: a word in the same slot of each trace, if the trace has that slot.
 pub fn put_pair(one: &mut [u32], two: &mut [u32], slot: u32, first: u32, second: u32)
     ensures { λ r. ⌜ now (one .exit) ≡ set (now (one .entry)) slot first ⌝ }
     ensures { λ r. ⌜ now (two .exit) ≡ set (now (two .entry)) slot second ⌝ }

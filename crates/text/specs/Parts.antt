@@ -4,14 +4,14 @@ use mathlib.Core.List.{List, _++_}
 use lib.ListN.{take}
 use Rattle.text.specs.declared.Text.{Text}
 
--- what a text says: its bytes up to its length
+-- the bytes of a text: those up to its length
 abbrev pub shown : Text → List ℕ
 shown t = take (t .len) (t .bytes)
 
--- the most bytes that a text holds: more than any reply that is a text has
+-- the most bytes of a text: more than any reply in text has
 abbrev pub textLimit : ℕ
 textLimit = 32
 
--- bytes added at the end; what goes past the limit is dropped
+-- bytes appended; what goes past the limit is dropped
 unfoldable pub added : List ℕ → List ℕ → List ℕ
 added xs bs = take textLimit (xs ++ bs)

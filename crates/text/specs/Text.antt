@@ -3,45 +3,47 @@ use Prim.Native.Nat.{ℕ, zero, suc, _+_, _-_, _/_, _%_, _^_}
 use mathlib.Core.Bool.{cond}
 use mathlib.Core.List.{List, [], _∷_, _++_}
 use lib.Dec.{ltb, eqb}
-use Rattle.number.specs.Number.{minus, point}
+use Rattle.divide.specs.Ascii.{comma}
+use Rattle.number.specs.Number.{minus, point, digitZero}
 
--- "the serial in five digits": the last digits of n, as many as the width says, from the one at the highest place to the one at place 0. 48 is "0"
+-- the last digits of n, as many as the width says, zeros in front where it has fewer: as the serial number's five
 unfoldable pub padded : ℕ → ℕ → List ℕ
 padded zero n = []
-padded (suc k) n = (48 + n / 10 ^ k % 10) ∷ padded k n
+padded (suc k) n = (digitZero + n / 10 ^ k % 10) ∷ padded k n
 
--- how many digits n has: one below ten, else one more than its tenth part has. It takes m steps at most, and n of them are enough
+-- how many digits n has: one below ten, else one more than its tenth part has. It takes m steps at most, and n of them
+-- are enough
 unfoldable pub placesIn : ℕ → ℕ → ℕ
 placesIn zero n = 1
 placesIn (suc m) n =
     let more = suc (placesIn m (n / 10)) in
     cond (ltb n 10) 1 more
 
+-- how many digits n has
 abbrev pub places : ℕ → ℕ
 places n = placesIn n n
 
--- "whole numbers plain": as many digits as n has, so no zero in front, and "0" for zero
+-- a whole number: as many digits as n has, so no zero in front, and "0" for zero
 unfoldable pub plain : ℕ → List ℕ
 plain n = padded (places n) n
 
--- "PHAS and OEXP x with 2 decimals, SLVL and AUXV 3, FREQ 4": n is in units of which 10 ^ decimals make one.
--- The whole part is plain; where there are decimals, a point and exactly so many digits follow
+-- n in units of 10^-decimals: its whole part, and where there are decimals a point and exactly that many digits
 unfoldable pub fixed : ℕ → ℕ → List ℕ
 fixed decimals n =
     plain (n / 10 ^ decimals) ++ cond (eqb decimals 0) [] (point ∷ padded decimals n)
 
--- "minus only below zero": a value is kept with the bias added to it, so zero is kept as the bias
+-- a minus below zero, and nothing else: v has the bias added, so zero is the bias itself
 unfoldable pub sign : ℕ → ℕ → List ℕ
 sign bias v = cond (ltb v bias) (minus ∷ []) []
 
--- how far the value kept as v is from zero
+-- how far v, which has the bias added, is from zero
 abbrev pub distance : ℕ → ℕ → ℕ
 distance bias v = (v - bias) + (bias - v)
 
--- the text of the value kept as v: its sign, then how far it is from zero
+-- the text of v, which has the bias added: its sign, then how far it is from zero
 unfoldable pub signedText : ℕ → ℕ → ℕ → List ℕ
 signedText decimals bias v = sign bias v ++ fixed decimals (distance bias v)
 
--- "several values divided by ",""
+-- a further value of the same reply, a comma before it
 abbrev pub next : ℕ → ℕ → ℕ → List ℕ
-next decimals bias v = 44 ∷ signedText decimals bias v
+next decimals bias v = comma ∷ signedText decimals bias v

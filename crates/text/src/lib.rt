@@ -2,15 +2,21 @@
 ghost use mathlib.Core.Path.{_≡_};
 ghost use mathlib.Core.List.{[], _∷_};
 ghost use Prim.Native.Nat.{_+_, _/_, _%_, _^_};
+ghost use Rattle.number.specs.Number.{digitZero};
 ghost use Rattle.text.specs.Text.{padded, places, plain, fixed, sign, distance, signedText, next};
 ghost use Rattle.text.specs.Parts.{shown, added};
 
-// The most bytes that a text holds: more than any reply that is a text has.
+// The most bytes of a text: more than any reply in text has.
 const LIMIT: usize = 32;
 
-// A reply's text, built by value before it is sent: the first len of its bytes, all of them where len is past the limit.
+// The digit "0".
+const ZERO: u32 = b'0' as u32;
+
+// A reply in text, built by value before it is sent.
 pub struct Text {
+    // The text, then bytes that do not count.
     pub bytes: [u8; LIMIT],
+    // How many of them are the text: all where it is past the limit.
     pub len: usize,
 }
 
@@ -40,7 +46,7 @@ pub fn push(t: Text, b: u8) -> Text
     n
 }
 
-// The whole part of a value in units of which 10 to the power decimals make one.
+// The whole part of a value in units of 10^-decimals.
 fn whole_part(value: u32, decimals: u8) -> u32
     ensures { λ r. ⌜ r ≡ value / 10 ^ decimals ⌝ }
 {
@@ -53,14 +59,14 @@ fn whole_part(value: u32, decimals: u8) -> u32
     rest
 }
 
-// The digit of a value at a place, the last one at place 0, as a byte.
-fn digit(value: u32, place: u8) -> u8
-    ensures { λ r. ⌜ r ≡ 48 + value / 10 ^ place % 10 ⌝ }
+// The digit of a value at a position, counted from 0 at its last digit, as a byte.
+fn digit(value: u32, position: u8) -> u8
+    ensures { λ r. ⌜ r ≡ digitZero + value / 10 ^ position % 10 ⌝ }
 {
-    (48 + whole_part(value, place) % 10) as u8
+    (ZERO + whole_part(value, position) % 10) as u8
 }
 
-// The text with the last digits of a value, as many as the width says, zeros in front where the value has fewer.
+// The text with the last `width` digits of a value, zeros in front where it has fewer.
 pub fn push_padded(t: Text, value: u32, width: u8) -> Text
     ensures { λ r. ⌜ shown r ≡ added (shown t) (padded width value) ⌝ }
 {
@@ -86,14 +92,15 @@ fn places_of(value: u32) -> u8
     count
 }
 
-// The text with a whole number: its digits and no zero in front.
+// The text with a whole number, without zeros in front.
 pub fn push_plain(t: Text, value: u32) -> Text
     ensures { λ r. ⌜ shown r ≡ added (shown t) (plain value) ⌝ }
 {
     push_padded(t, value, places_of(value))
 }
 
-// The text with a value in units of which 10 to the power decimals make one: its whole part and, where there are decimals, a point and the decimals.
+// The text with a value in units of 10^-decimals: its whole part and, where there are decimals, a point and the
+// decimals.
 pub fn push_fixed(t: Text, value: u32, decimals: u8) -> Text
     ensures { λ r. ⌜ shown r ≡ added (shown t) (fixed decimals value) ⌝ }
 {
@@ -105,7 +112,7 @@ pub fn push_fixed(t: Text, value: u32, decimals: u8) -> Text
     push_padded(pointed, value, decimals)
 }
 
-// The text with a minus, where the value kept is below the bias.
+// The text with a minus where the value, which has the bias added, is below zero.
 fn push_sign(t: Text, value: u32, bias: u32) -> Text
     ensures { λ r. ⌜ shown r ≡ added (shown t) (sign bias value) ⌝ }
 {
@@ -125,7 +132,7 @@ fn distance_of(a: u32, b: u32) -> u32
     a - b
 }
 
-// The text with a value that is kept with the bias added to it: a minus where it is below zero, then how far it is from zero.
+// The text with a value that has the bias added: a minus where it is below zero, then its distance from zero.
 pub fn push_value(t: Text, value: u32, bias: u32, decimals: u8) -> Text
     ensures { λ r. ⌜ shown r ≡ added (shown t) (signedText decimals bias value) ⌝ }
 {
@@ -133,7 +140,7 @@ pub fn push_value(t: Text, value: u32, bias: u32, decimals: u8) -> Text
     push_fixed(signed, distance_of(bias, value), decimals)
 }
 
-// A further value, divided from what stands before it by ",".
+// The text with a further value of the same reply, a comma before it.
 pub fn push_next(t: Text, value: u32, bias: u32, decimals: u8) -> Text
     ensures { λ r. ⌜ shown r ≡ added (shown t) (next decimals bias value) ⌝ }
 {

@@ -1,14 +1,14 @@
--- The script check's answer as one number: document 01, "Our console is written in C and hands over a byte range and a number, so the check is
--- callable from there too."
+-- The script check's verdict as one number, for a console in C: document 01, "The script check".
 use Prim.Native.Nat.{ℕ, _+_, _-_, _*_, _/_, _%_, _^_, min}
 use Rattle.refusal.specs.Meaning.{meaningOf}
 use Rattle.verdict.specs.declared.Verdict.{Verdict}
 use Rattle.verdict.specs.declared.Verdict.the-variants.{Fine, No}
 
--- a line and a place past these are told as these, so that every verdict has a number of 64 bits
+-- the largest line of the number; one past it counts as this, so that every verdict has a number of 64 bits
 abbrev pub lineMost : ℕ
 lineMost = 2 ^ 40 - 1
 
+-- the largest place of the number; one past it counts as this
 abbrev pub placeMost : ℕ
 placeMost = 2 ^ 16 - 1
 
@@ -16,17 +16,19 @@ placeMost = 2 ^ 16 - 1
 unfoldable pub packed : ℕ → ℕ → ℕ → ℕ
 packed line place number = min line lineMost * 2 ^ 24 + min place placeMost * 2 ^ 8 + number
 
--- "If an answer is an enum, a definition tells you this paper's number and values for each of its cases."
+-- the number of each verdict, by document 01's number of its refusal; 0 where nothing is refused
 unfoldable pub numberOf : Verdict → ℕ
 numberOf Fine = 0
 numberOf (No line place refusal) = packed line place (meaningOf refusal .number)
 
--- how a line, a place and a refusal's number are read off
+-- the line that a number holds
 abbrev pub lineRead : ℕ → ℕ
 lineRead n = n / 2 ^ 24
 
+-- the place that a number holds
 abbrev pub placeRead : ℕ → ℕ
 placeRead n = n / 2 ^ 8 % 2 ^ 16
 
+-- the refusal's number that a number holds
 abbrev pub refusalRead : ℕ → ℕ
 refusalRead n = n % 2 ^ 8

@@ -1,4 +1,4 @@
--- The script check's answer in document 01's numbers: document 01, "The script check".
+-- The script check's verdict in document 01's numbers: document 01, "The script check".
 use Prim.Native.Nat.{ℕ}
 use Rattle.refusal.specs.Meaning.{meaningOf}
 use Rattle.verdict.specs.declared.Verdict.{Verdict}

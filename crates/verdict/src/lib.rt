@@ -1,25 +1,30 @@
-// What the script check says, and the same as one number for a caller in C.
+// The script check's verdict, and the same as one number for a caller in C.
 ghost use mathlib.Core.Path.{_≡_};
 ghost use Prim.Native.Nat.{min};
 ghost use Rattle.verdict.specs.Number.{lineMost, placeMost, packed, numberOf};
 use refusal::Refusal;
 
-// Fine, or the line, the place and the refusal of the first command that some course refuses.
+// What the script check says.
 pub enum Verdict {
+    // No course refuses a command of the script.
     Fine,
+    // The first command or line that some course refuses: its line from 1, its place from 1, and the refusal.
     No(usize, u32, Refusal),
 }
 
-// The largest line and place that the number can tell.
-const LINE_MOST: u64 = 1099511627775;
+// The largest line that the number holds: 40 bits.
+const LINE_MOST: u64 = 0xFF_FFFF_FFFF;
 
-const PLACE_MOST: u32 = 65535;
+// The largest place that the number holds: 16 bits.
+const PLACE_MOST: u32 = 0xFFFF;
 
-// What a line and a place count in the number.
-const LINE_UNIT: u64 = 16777216;
+// The weight of the line in the number: it begins at bit 24.
+const LINE_UNIT: u64 = 0x100_0000;
 
-const PLACE_UNIT: u64 = 256;
+// The weight of the place in the number: it begins at bit 8.
+const PLACE_UNIT: u64 = 0x100;
 
+// The line as the number holds it: one past the largest counts as the largest.
 fn line_told(line: usize) -> u64
     ensures { λ r. ⌜ r ≡ min line lineMost ⌝ }
 {
@@ -30,6 +35,7 @@ fn line_told(line: usize) -> u64
     n
 }
 
+// The place as the number holds it: one past the largest counts as the largest.
 fn place_told(place: u32) -> u32
     ensures { λ r. ⌜ r ≡ min place placeMost ⌝ }
 {
@@ -39,6 +45,7 @@ fn place_told(place: u32) -> u32
     place
 }
 
+// Line, place and the refusal's number as one number.
 fn pack(line: usize, place: u32, number: u8) -> u64
     ensures { λ r. ⌜ r ≡ packed line place number ⌝ }
 {

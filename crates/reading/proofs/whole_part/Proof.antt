@@ -12,10 +12,10 @@ use Rattle.reading.proofs.whole_part.Statement.{statement}
 use Rattle.reading.proofs.whole_part.Tie as tie
 
 abbrev Inv-loop : tie.InvT-loop
-Inv-loop front back kept value₀ place₀ value place = (place ≤ kept) × (value ≡ min cap (places (front ++ back) 0 place))
+Inv-loop front back kept value₀ index₀ value index = (index ≤ kept) × (value ≡ min cap (places (front ++ back) 0 index))
 
 abbrev μ-loop : tie.MeasureT-loop
-μ-loop front back kept value₀ place₀ value place = kept - place
+μ-loop front back kept value₀ index₀ value index = kept - index
 
 loop-holds : tie.Need-loop-holds Inv-loop μ-loop
 unfolding places
@@ -27,17 +27,17 @@ digit-at-requires c κs = tt
 sub-grown : tie.Need-sub-grown Inv-loop μ-loop
 sub-grown c =
     let a = c .before .before .before .before .before .args in
-    omega (arith, c .digit-at .ensures, digit-range (a .front .now ++ a .back .now) (c .before .before .before .before .before .pre) (c .before .before .loop .place))
+    omega (arith, c .digit-at .ensures, digit-range (a .front .now ++ a .back .now) (c .before .before .before .before .before .pre) (c .before .before .loop .index))
 
 grown-requires : tie.Need-grown-requires Inv-loop μ-loop
 grown-requires c κs =
     let a = c .before .before .before .before .before .args in (
       rw (c .before .before .loop .inv .1) (min-le-left _ _),
-      omega (arith, c .digit-at .ensures, digit-range (a .front .now ++ a .back .now) (c .before .before .before .before .before .pre) (c .before .before .loop .place)),
+      omega (arith, c .digit-at .ensures, digit-range (a .front .now ++ a .back .now) (c .before .before .before .before .before .pre) (c .before .before .loop .index)),
     )
 
-add-place : tie.Need-add-place Inv-loop μ-loop
-add-place c = omega arith
+add-index : tie.Need-add-index Inv-loop μ-loop
+add-index c = omega arith
 
 loop-less : tie.Need-loop-less Inv-loop μ-loop
 loop-less c = omega arith
@@ -45,11 +45,11 @@ loop-less c = omega arith
 loop-again : tie.Need-loop-again Inv-loop μ-loop
 loop-again c =
     let a = c .before .before .before .before .before .before .args in
-    (omega arith, c .grown .ensures ∙ grow (a .front .now ++ a .back .now) (c .before .before .before .loop .place) _ _ (c .before .before .before .loop .inv .1) (ap (λ b. b - 48) (c .before .digit-at .ensures)))
+    (omega arith, c .grown .ensures ∙ grow (a .front .now ++ a .back .now) (c .before .before .before .loop .index) _ _ (c .before .before .before .loop .inv .1) (ap (λ b. b - 48) (c .before .digit-at .ensures)))
 
 returns : tie.Need-returns Inv-loop μ-loop
 returns c =
-    let e : c .before .loop .place ≡ c .before .before .before .before .args .kept = omega arith in
+    let e : c .before .loop .index ≡ c .before .before .before .before .args .kept = omega arith in
     c .before .loop .inv .1 ∙ rw e
 
 pub whole-part-spec : {M : Type 1} → statement M
@@ -62,7 +62,7 @@ whole-part-spec =
     digit-at-requires
     sub-grown
     grown-requires
-    add-place
+    add-index
     loop-less
     loop-again
     returns)

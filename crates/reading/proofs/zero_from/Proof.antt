@@ -10,10 +10,10 @@ use Rattle.reading.proofs.zero_from.Statement.{statement}
 use Rattle.reading.proofs.zero_from.Tie as tie
 
 abbrev Inv-loop : tie.InvT-loop
-Inv-loop front back from n place₀ place = allZero (drop from (front ++ back)) ≡ allZero (drop place (front ++ back))
+Inv-loop front back from n index₀ index = allZero (drop from (front ++ back)) ≡ allZero (drop index (front ++ back))
 
 abbrev μ-loop : tie.MeasureT-loop
-μ-loop front back from n place₀ place = n - place
+μ-loop front back from n index₀ index = n - index
 
 add-n : tie.Need-add-n Inv-loop μ-loop
 add-n c = omega arith
@@ -24,8 +24,8 @@ loop-holds c = refl
 digit-at-requires : tie.Need-digit-at-requires Inv-loop μ-loop
 digit-at-requires c κs = tt
 
-add-place : tie.Need-add-place Inv-loop μ-loop
-add-place c = omega arith
+add-index : tie.Need-add-index Inv-loop μ-loop
+add-index c = omega arith
 
 loop-less : tie.Need-loop-less Inv-loop μ-loop
 loop-less c = omega arith
@@ -34,7 +34,7 @@ loop-again : tie.Need-loop-again Inv-loop μ-loop
 loop-again c =
     let a = c .before .before .before .before .before .before .args in
     c .before .before .before .loop .inv
-    ∙ zeros-more (a .front .now ++ a .back .now) (c .before .before .before .loop .place)
+    ∙ zeros-more (a .front .now ++ a .back .now) (c .before .before .before .loop .index)
     (omega (arith, c .before .before .loop-test .taken, length-append (a .front .now) (a .back .now)))
     (sym (c .before .digit-at .ensures) ∙ c .if1 .taken)
 
@@ -43,7 +43,7 @@ returns c =
     let a = c .before .before .before .before .before .before .args in
     sym
     (c .before .before .before .loop .inv
-    ∙ zeros-stop (a .front .now ++ a .back .now) (c .before .before .before .loop .place)
+    ∙ zeros-stop (a .front .now ++ a .back .now) (c .before .before .before .loop .index)
     (omega (arith, c .before .before .loop-test .taken, length-append (a .front .now) (a .back .now)))
     (λ e. c .if1 .left (c .before .digit-at .ensures ∙ e)))
 
@@ -52,7 +52,7 @@ returns-2 c =
     let a = c .before .before .before .before .args in
     sym
     (c .before .loop .inv
-    ∙ zeros-end (a .front .now ++ a .back .now) (c .before .loop .place)
+    ∙ zeros-end (a .front .now ++ a .back .now) (c .before .loop .index)
     (omega (arith, c .loop-test .left, length-append (a .front .now) (a .back .now))))
 
 pub zero-from-spec : {M : Type 1} → statement M
@@ -64,7 +64,7 @@ zero-from-spec =
     add-n
     loop-holds
     digit-at-requires
-    add-place
+    add-index
     loop-less
     loop-again
     returns
