@@ -114,7 +114,8 @@ static void print_refused(uint64_t answer)
     else if (refusal == GLAZEOTTER_LONG_SCRIPT_LINE)
         printf("line %" PRIu64 ": refused by 8, the line is over 256 bytes\n", line);
     else
-        printf("line %" PRIu64 ", command %" PRIu32 ": refused by %" PRIu32 ", %s\n", line, glazeotter_place(answer), refusal, meaning(refusal));
+        printf("line %" PRIu64 ", command %" PRIu32 ": refused by %" PRIu32 ", %s\n", line, glazeotter_place(answer),
+               refusal, meaning(refusal));
 }
 
 /* Writes the verdict in words, and gives the exit status. */

@@ -1,7 +1,9 @@
-/* Answers operations `check CAP HEX` of docs/ops-protocol.md, one a line on standard input, through the check's C entry.
+/* Answers operations `check CAP HEX` of docs/ops-protocol.md, one a line on standard input, through the check's C
+ * entry.
  *
- * For each it writes the number, then the line, the place and the refusal as include/glazeotter.h reads them off. Each script is
- * handed over twice, in memory of exactly its length, and must keep its bytes; one of no bytes also as NULL.
+ * For each it writes the number, then the line, the place and the refusal as include/glazeotter.h reads them off. Each
+ * script is handed over twice, in memory of exactly its length, and its bytes must not change; one of no bytes is
+ * handed over as NULL too.
  */
 #include "glazeotter.h"
 
@@ -10,14 +12,17 @@
 #include <stdlib.h>
 #include <string.h>
 
+/* The most bytes of an operation; the scanf below has the same number. */
 enum { OPERATION = 131072 };
 
+/* Ends the program with these words. */
 static void fail(const char *words)
 {
     fprintf(stderr, "tests: console: %s\n", words);
     exit(1);
 }
 
+/* Memory of exactly this length. */
 static uint8_t *memory(size_t length)
 {
     uint8_t *bytes = malloc(length == 0 ? 1 : length);
@@ -27,6 +32,7 @@ static uint8_t *memory(size_t length)
     return bytes;
 }
 
+/* The value of a hex digit. */
 static uint8_t digit(char c)
 {
     static const char digits[] = "0123456789abcdef";
@@ -50,6 +56,7 @@ static uint8_t *bytes_of(const char *hex, size_t *length)
     return bytes;
 }
 
+/* The number that the check gives for a script in hex, the same each time. */
 static uint64_t check(const char *hex, uint32_t capacity)
 {
     size_t length;
@@ -70,6 +77,7 @@ static uint64_t check(const char *hex, uint32_t capacity)
     return answer;
 }
 
+/* Answers one operation. */
 static void perform(const char *operation)
 {
     static char hex[OPERATION + 1];

@@ -1,10 +1,12 @@
--- Document 01, "Examples on both sides": the table of the examples, each with what it shows, and the statement that the public calls show it.
+-- Document 01, "Examples on both sides": the table of the examples, each with what it shows, and the statement that the
+-- public calls show it.
 use Prim.Native.Nat.{ℕ, _+_, _-_, _*_}
 use Prim.Native.String.{String}
 use mathlib.Core.Path.{_≡_}
 use mathlib.Core.List.{List, [], _∷_, _++_}
 use lib.ListN.{length, replicate}
 use Rattle.divide.specs.Ascii.{bytes}
+use Rattle.queue.specs.Queue.{gpib, lf}
 use Rattle.settings.specs.Table.{phas, freq, harm, oflt, srat, rowOf, startSettings, withValue}
 use Rattle.settings.specs.declared.Settings.{Settings}
 use Rattle.event.specs.declared.Event.the-variants.{Latest}
@@ -23,24 +25,25 @@ pub data Whole : Type 0 where
   plus : ℕ → Whole
   minus : ℕ → Whole
 
--- a line handed over whole; "TRCB of (m, e)"; a script of two lines at a capacity
+-- an example: a line handed over whole, the float that TRCB sends for a point, or a script of two lines at a capacity
 pub data Example : Type 0 where
   line : (text : String) → Example
   trcb : (m : Whole) (e : ℕ) → Example
   script : (capacity : ℕ) (first second : String) → Example
 
--- what is seen of one: of a line its refusal, place and length, the settings kept and the reply bytes; of a script `ok`, or `no` with line, place
--- and refusal
+-- what is seen of one: of a line its refusal, place and length, the settings after it and the reply bytes; of a script
+-- `ok`, or `no` with line, place and refusal
 pub data Seen : Type 0 where
   answer : Numbers → (kept : Settings) (reply : List ℕ) → Seen
   verdict : Said → Seen
 
 -- ---- what is seen, by the definitions that the public calls' contracts cite
 
--- "each from start": "a fresh GPIB module, serial 42, capacity 8", with traces of zeros
+-- the module that each line starts from: GPIB, serial number 42, capacity 8
 abbrev pub fresh : Module
-fresh = startOf 42 1 8 8 .after
+fresh = startOf 42 gpib 8 8 .after
 
+-- its traces
 abbrev pub zeros : List ℕ
 zeros = replicate 8 0
 
@@ -54,13 +57,14 @@ lineSeen m one two text =
     let c = lineCall room (bytes text) m one two in
     answer (numbersOf (c .told)) (c .after .state .settings) (c .out)
 
--- "A point is a 32-bit word: low 16 bits a signed m, third byte an exponent e, top byte 0"
+-- m as 16 bits, in two's complement
 unfoldable pub low16 : Whole → ℕ
 low16 (plus m) = m
-low16 (minus m) = 65536 - m
+low16 (minus m) = 0x1_0000 - m
 
+-- the point (m, e) as a word: e is its third byte
 unfoldable pub wordOf : Whole → ℕ → ℕ
-wordOf m e = e * 65536 + low16 m
+wordOf m e = e * 0x1_0000 + low16 m
 
 -- the point is the first of a new latest pair, is stored by TRIG at SRAT 14, and is then bin 0 of trace 1
 unfoldable pub floatSeen : ℕ → Seen
@@ -68,7 +72,7 @@ floatSeen word =
     let c = eventCall (Latest word 0) fresh zeros zeros in
     lineSeen (c .after) (c .one) (c .two) "SRAT 14;STRT;TRIG;TRCB?1,0,1"
 
--- lines of a script are "ended by LF, the last may lack it"
+-- what is seen of an example; an LF ends the first line of a script, and nothing the second
 unfoldable pub seenOf : Example → Seen
 seenOf (line text) = lineSeen fresh zeros zeros text
 seenOf (trcb m e) = floatSeen (wordOf m e)
@@ -76,15 +80,16 @@ seenOf (script capacity first second) = verdict (said (checkOf capacity (bytes f
 
 -- ---- what the table says
 
--- settings with another value at an entry, in the entry's units: 0.01 for PHAS, 0.0001 for FREQ, 1 for HARM, OFLT and SRAT
+-- settings with another value at an entry, in the entry's units: 0.01 for PHAS, 0.0001 for FREQ, 1 for HARM, OFLT and
+-- SRAT
 abbrev pub keeping : ℕ → ℕ → Settings → Settings
 keeping entry x s = withValue s entry (rowOf entry .bias + x)
 
--- a reply that is a text: "replies end in LF"
+-- a reply in text, with its end
 abbrev pub text : String → List ℕ
-text s = bytes s ++ (10 ∷ [])
+text s = bytes s ++ (lf ∷ [])
 
--- "passes": the answer is 0
+-- nothing is refused: the answer is 0
 abbrev pub passes : Settings → List ℕ → Seen
 passes kept reply = answer (record { refusal = 0; place = 0; length = length reply }) kept reply
 
@@ -101,41 +106,44 @@ pub record Row : Type 0 where
   pub example : Example
   pub shows : Seen
 
+-- an example with what it shows
 abbrev pub row : Example → Seen → Row
 row e s = record { example = e; shows = s }
 
 -- the examples in document 01's order; a setting that is kept is queried in the same line
 unfoldable pub table : List Row
 table =
-    -- "PHAS -180 keeps 180.00;"
+    -- minus half a turn becomes half a turn
     row (line "PHAS -180;PHAS?") (passes (keeping phas 18000 startSettings) (text "180.00"))
-    -- "PHAS 729.99 keeps 9.99, 729.991 is 2;"
+    -- two turns are taken off; the range is tested before rounding
     ∷ row (line "PHAS 729.99;PHAS?") (passes (keeping phas 999 startSettings) (text "9.99"))
     ∷ row (line "PHAS 729.991") (refuses 2 1 startSettings)
-    -- "FREQ 1234.56 keeps 1234.6, 12345.5 keeps 12346;"
+    -- the step goes by the value, and halves are rounded up
     ∷ row (line "FREQ 1234.56;FREQ?") (passes (keeping freq 12346000 startSettings) (text "1234.6000"))
     ∷ row (line "FREQ 12345.5;FREQ?") (passes (keeping freq 123460000 startSettings) (text "12346.0000"))
-    -- "HARM 102 passes, 103 is 3, 5.4 is 2;"
+    -- the detection frequency has a limit, and a harmonic is whole
     ∷ row (line "HARM 102") (passes (keeping harm 102 startSettings) [])
     ∷ row (line "HARM 103") (refuses 3 1 startSettings)
     ∷ row (line "HARM 5.4") (refuses 2 1 startSettings)
-    -- "FREQ 100;HARM 2;OFLT 14 passes, with FREQ 100.01 it is 3;"
-    ∷ row (line "FREQ 100;HARM 2;OFLT 14") (passes (keeping oflt 14 (keeping harm 2 (keeping freq 1000000 startSettings))) [])
+    -- a long time constant is allowed up to 200 Hz
+    ∷ row (line "FREQ 100;HARM 2;OFLT 14")
+    (passes (keeping oflt 14 (keeping harm 2 (keeping freq 1000000 startSettings))) [])
     ∷ row (line "FREQ 100.01;HARM 2;OFLT 14") (refuses 3 3 (keeping harm 2 (keeping freq 1000100 startSettings)))
-    -- "TRCB of (m, e): (1,124) is 00 00 80 3F, (-3,123) is 00 00 C0 BF, (32767,124) is 00 FE FF 46, (-32768,236) is 00 00 00 FF;"
+    -- points as floats: 1, -1.5, the largest m, and the lowest point of all
     ∷ row (trcb (plus 1) 124) (sends 0x00 0x00 0x80 0x3F)
     ∷ row (trcb (minus 3) 123) (sends 0x00 0x00 0xC0 0xBF)
     ∷ row (trcb (plus 32767) 124) (sends 0x00 0xFE 0xFF 0x46)
     ∷ row (trcb (minus 32768) 236) (sends 0x00 0x00 0x00 0xFF)
-    -- "script `*RST;SRAT 14;STRT;TRIG;TRIG` then `TRCB?1,0,2` passes at capacity 2, is `no 2 1 3` at 1."
+    -- two points stored are two to read, where there is room for two
     ∷ row (script 2 "*RST;SRAT 14;STRT;TRIG;TRIG" "TRCB?1,0,2") (verdict ok)
     ∷ row (script 1 "*RST;SRAT 14;STRT;TRIG;TRIG" "TRCB?1,0,2") (verdict (no 2 1 3))
     ∷ []
 
--- "Proved together as a single tabled statement": every example shows what its row says
+-- every example of these rows shows what its row says
 abbrev pub Every : List Row → Type 0
 Every [] = Unit {0}
 Every (r ∷ rs) = (seenOf (r .example) ≡ r .shows) × Every rs
 
+-- every example of the table does, in one statement
 abbrev pub Examples : Type 0
 Examples = Every table

@@ -61,7 +61,7 @@ pub struct Setting {
 }
 
 impl Setting {
-    /// How far the entries of the channel named lie behind the setting's first one.
+    /// How far the entries of the channel named are after the setting's first one.
     pub fn channel_offset(&self, arguments: &[i64]) -> usize {
         match self.channels {
             0 => 0,

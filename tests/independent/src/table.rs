@@ -44,7 +44,7 @@ fn alter(place: Place, value: Value) -> Operation {
     Operation::Alter { field: field::at(place), value }
 }
 
-/// Storage paused with so many points.
+/// Storage paused with `held` points.
 fn with_points(held: i64) -> [Operation; 2] {
     [alter(Place::Phase, Value::Phase(Phase::Paused)), alter(Place::Held, Value::Number(held))]
 }

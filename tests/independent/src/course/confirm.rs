@@ -34,7 +34,7 @@ impl fmt::Display for Tally {
     }
 }
 
-/// Confirms the verdicts on so many small random scripts by so many random courses of each.
+/// Confirms the verdicts on `count` small random scripts by `tries` random courses of each.
 pub fn confirm(seed: u64, count: usize, tries: usize) -> Result<Tally, String> {
     let mut generator = Generator::new(seed);
     let mut tally = Tally::default();

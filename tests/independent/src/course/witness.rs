@@ -128,7 +128,7 @@ mod tests {
     const INPUT: &str = "4\n*RST;TSTR 1\n\nSEND 1\nSPTS?";
     const LINES: [&str; 3] = ["line 2a5253543b545354522031 9", "line - 9", "line 53454e442031 0"];
 
-    /// Whether a text passes as a witness, with the answers given here, save where another is told.
+    /// Whether a text passes as a witness, with the answers given here, save where `other` replaces one.
     fn passes(said: &str, other: Option<(&str, &str)>) -> bool {
         let mut given = answers(said);
         if let Some((old, new)) = other {

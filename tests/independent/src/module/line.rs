@@ -10,9 +10,9 @@ pub struct Answer {
     /// The first refusal and its place, from 1; place 0 where there is none, and for a line too long.
     pub refusal: Option<Refusal>,
     pub place: usize,
-    /// The length told.
+    /// The length reported.
     pub length: usize,
-    /// All bytes written, also where their length is told as 0.
+    /// All bytes written, also where the length reported is 0.
     pub written: Vec<u8>,
 }
 

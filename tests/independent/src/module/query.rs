@@ -6,7 +6,7 @@ use crate::refusal::Refusal;
 use crate::setting::{self, Setting};
 
 impl Module {
-    /// The bytes of a query's reply with its end, of which the trace reads have none.
+    /// The bytes of a query's reply with its end; trace reads have no end.
     pub(super) fn reply(&self, query: &Command, reply_waiting: bool) -> Result<Vec<u8>, Refusal> {
         if matches!(query.name, "TRCL" | "TRCB") {
             return self.trace_bytes(query);
@@ -57,11 +57,11 @@ impl Module {
         Ok(bytes.flatten().collect())
     }
 
-    /// Clears what a reply has told.
+    /// Clears the register, or the bit of it, that a reply was about.
     pub(super) fn after_reply(&mut self, query: &Command) {
         if matches!(query.name, "*ESR" | "LIAS" | "ERRS") {
-            let told = query.arguments.first().map_or(u8::MAX, |&bit| 1 << bit);
-            *self.registers.events(query.name) &= !told;
+            let replied = query.arguments.first().map_or(u8::MAX, |&bit| 1 << bit);
+            *self.registers.events(query.name) &= !replied;
         }
     }
 }

@@ -29,7 +29,7 @@ impl Storage {
         Storage { capacity, asked: Asked::Nothing, points: 0 }
     }
 
-    /// Storage in a phase, so many points after its last emptying. In one shot it has no more than its
+    /// Storage in a phase, `points` points after its last emptying. In one shot it has no more than its
     /// capacity, and is done with these.
     pub fn in_phase(capacity: usize, phase: Phase, points: usize) -> Storage {
         match phase {

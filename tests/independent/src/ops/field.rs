@@ -64,7 +64,7 @@ impl fmt::Display for Value {
 }
 
 /// Every field in the order of `dump`: the settings' table is in that order too, save that the
-/// external frequency stands behind the internal one.
+/// external frequency comes after the internal one.
 pub static FIELDS: LazyLock<Vec<Field>> = LazyLock::new(|| {
     let single = |(name, place)| Field { name, part: None, place };
     let mut fields: Vec<Field> =

@@ -98,7 +98,7 @@ fn with_a_command_less(text: &[u8]) -> Vec<Operation> {
     }
 }
 
-/// The bytes with each of their parts left out in turn, of which there are at least two.
+/// The bytes with each of their parts left out in turn; none where there is one part only.
 fn without_each(bytes: &[u8], divider: u8) -> Vec<Vec<u8>> {
     let parts: Vec<&[u8]> = bytes.split(|&byte| byte == divider).collect();
     let kept = |left_out| [&parts[..left_out], &parts[left_out + 1..]].concat().join(&divider);

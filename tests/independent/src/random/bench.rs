@@ -4,7 +4,7 @@ use super::generator::Generator;
 use super::{lines, near};
 use crate::module::Module;
 
-/// Bytes of so many lines; the last one is not ended.
+/// Bytes of `count` lines; the last one is not ended.
 pub fn input(seed: u64, count: usize) -> Vec<u8> {
     let mut generator = Generator::new(seed);
     let mut module = Module::start(42, 1, [8; 2]).expect("a lawful start");

@@ -23,7 +23,7 @@ pub fn course(generator: &mut Generator, capacity: usize, lines: &[&[u8]]) -> Co
     course
 }
 
-/// Up to so many events.
+/// At most `most` events.
 pub fn let_events_fall(generator: &mut Generator, session: &mut Session, most: usize) -> Vec<Operation> {
     let count = generator.below(most + 1);
     (0..count)

@@ -5,7 +5,7 @@ use super::lines;
 use super::operations::Operations;
 use crate::ops::MOST_OPERATION_BYTES;
 
-/// One operation in so many is damaged by nothing, so that damage to a state would show.
+/// One operation in this many is left whole, so that damage to a state would show.
 const WHOLE_EVERY: usize = 4;
 
 /// An operation's text with something wrong with it, mostly.

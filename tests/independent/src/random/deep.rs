@@ -111,7 +111,7 @@ impl Iterator for Scripts {
     }
 }
 
-/// A script of at most so many lines up to where it is refused.
+/// A script of at most `most_lines` lines up to where it is refused.
 pub fn case(generator: &mut Generator, most_lines: usize) -> Case {
     let aim = match generator.below(100) {
         0..=35 => Aim::Pass,
@@ -135,7 +135,7 @@ pub fn case(generator: &mut Generator, most_lines: usize) -> Case {
     Case { capacity, script }
 }
 
-/// A lawful script of exactly so many bytes, for capacity 4; nothing where these are too few.
+/// A lawful script of exactly `bytes` bytes, for capacity 4; nothing where these are too few.
 pub fn long(seed: u64, bytes: usize) -> Option<Vec<u8>> {
     let mut generator = Generator::new(seed);
     let mut writer = Writer::new(&mut generator, 4);

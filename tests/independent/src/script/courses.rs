@@ -180,7 +180,7 @@ impl Courses {
         }
     }
 
-    /// Whether some course is in a phase with so many points held.
+    /// Whether some course is in a phase with `held` points.
     #[cfg(test)]
     pub fn can_hold(&self, phase: Phase, held: usize) -> bool {
         let counts = match phase {
