@@ -49,13 +49,17 @@ pub record Goes (before after : Module) (one two first second : List ℕ) : Type
   pub next : guardOf before (length one) (length two) ≡ Done → guardOf after (length first) (length second) ≡ Done
   pub queued : length (after .queue .bytes) ≡ length (before .queue .bytes)
 
--- a module that the calls made: by a start, refused or not, and by lines, bytes and events, each with any traces
+-- a module that the calls made, each with any traces
 pub data Made : Module → Type 0 where
+  -- by a start, refused or not
   byStart : (serial port first second : ℕ) → Made (startOf serial port first second .after)
+  -- by a line handed over whole
   byLine : (room : ℕ) (bytes : List ℕ) (m : Module) (one two : List ℕ) → Made m →
       Made (lineCall room bytes m one two .after)
+  -- by a byte
   byByte : (room b : ℕ) (mark : Bool) (m : Module) (one two : List ℕ) → Made m →
       Made (byteCall room b mark m one two .after)
+  -- by an event
   byEvent : (event : Event) (m : Module) (one two : List ℕ) → Made m → Made (eventCall event m one two .after)
 
 -- every start, refused ones too, gives an allowed module whose queue has all its bytes; where the start is not refused,

@@ -33,11 +33,15 @@ use Rattle.lockin.specs.Calls.{Call, lineCall, byteCall, EventCall, eventCall}
 
 -- ---- the bit laid down
 
--- the refusals of a command, 1 to 4, each with its bit of the standard event register: 5 is CMD, 4 is EXE, 2 is QRY
+-- the refusals of a command, each with its bit of the standard event register
 pub data OfCommand : Refusal → ℕ → Type 0 where
+  -- 1: CMD
   malformed : OfCommand Malformed 5
+  -- 2: EXE
   outOfRange : OfCommand OutOfRange 4
+  -- 3: EXE
   notAllowed : OfCommand NotAllowed 4
+  -- 4: QRY
   noRoom : OfCommand NoRoom 2
 
 -- bit i is set, and each other bit is as it was
@@ -99,30 +103,35 @@ pub record AcceptedStep (room : ℕ) (text : List ℕ) (l : Line) : Type 0 where
 
 -- ---- the commands of a line
 
--- a command after which the next one has its turn: an accepted one, or one refused by another refusal than 4
+-- a command after which the next one has its turn
 pub data Continues (room : ℕ) (text : List ℕ) (l : Line) : Type 0 where
+  -- an accepted one
   accepted : AcceptedStep room text l → Continues room text l
+  -- one refused by another refusal than 4
   refused : (refusal : Refusal) → RefusedStep refusal room text l → refusal ≢ NoRoom → Continues room text l
 
 -- commands one after the other, each a Step: each starts from the line as the one before it left it
 pub data OneByOne (Step : List ℕ → Line → Type 0) (room : ℕ) : List (List ℕ) → Line → Line → Type 0 where
+  -- no command is left
   none : (l : Line) → OneByOne Step room [] l l
+  -- one command, and then the others
   next : (text : List ℕ) (more : List (List ℕ)) (l end : Line) → Step text l →
       OneByOne Step room more (stepOf room text l) end → OneByOne Step room (text ∷ more) l end
 
--- the commands of a line from its start to its end, and the length reported: every command has its turn, and the length
--- is that of the reply; or one is refused by 4, which drops those after it: the bytes written before it stay (`reply`
--- of RefusedStep), and the length is 0
+-- the commands of a line from its start to its end, and the length reported
 pub data Commands (room : ℕ) (start : Line) : List (List ℕ) → Line → ℕ → Type 0 where
+  -- every command has its turn, and the length is that of the reply
   whole : (texts : List (List ℕ)) (end : Line) →
       OneByOne (Continues room) room texts start end →
       Commands room start texts end (length (end .out))
+  -- one is refused by 4, which drops those after it: the bytes written before it stay (`reply` of RefusedStep), and the
+  -- length is 0
   crowded : (before : List (List ℕ)) (text : List ℕ) (dropped : List (List ℕ)) (here : Line) →
       OneByOne (Continues room) room before start here →
       RefusedStep NoRoom room text here →
       Commands room start (before ++ (text ∷ dropped)) (stepOf room text here) 0
 
--- the first refused command of a line stands at this place, counted from 1: each command before it is accepted
+-- the first refused command of a line has this place, counted from 1: each command before it is accepted
 pub record FirstRefused (refusal : Refusal) (place room : ℕ) (texts : List (List ℕ)) (start : Line) : Type 0 where
   pub before : List (List ℕ)
   pub text : List ℕ
@@ -193,8 +202,11 @@ pub record OnlyMarked (m : Module) (q : Queue) (one two : List ℕ) (c : Call) :
 
 -- the refusals at place 0; under 5 the queue becomes q
 pub data RefusedCall (m : Module) (q : Queue) (one two : List ℕ) (c : Call) : Refusal → Type 0 where
+  -- 11
   stateRefused : Untouched m one two c → RefusedCall m q one two c BadState
+  -- 9
   tracesRefused : Untouched m one two c → RefusedCall m q one two c BadTraces
+  -- 5
   lineTooLong : OnlyMarked m q one two c → RefusedCall m q one two c LongLine
 
 -- the queue after byte 257 of a line: empty, and bytes are dropped from here on, save where that byte's end mark ends
@@ -204,10 +216,13 @@ emptiedAt q marked = droppingIs (not marked) (emptiedOf q)
 
 -- ---- events, starts and polls
 
--- the refusals of an event: 6, 9 and 11
+-- the refusals of an event
 pub data OfEvent : Refusal → Type 0 where
+  -- 6
   badEvent : OfEvent BadEvent
+  -- 9
   badTraces : OfEvent BadTraces
+  -- 11
   badState : OfEvent BadState
 
 -- a refused event: nothing is changed
@@ -217,10 +232,11 @@ pub record RefusedEvent (refusal : Refusal) (m : Module) (one two : List ℕ) (c
   pub first : c .one ≡ one
   pub second : c .two ≡ two
 
--- the refusals of a start: 10 where there is no such serial number or port, else 9 where the traces have lengths that
--- they may not have
+-- the refusals of a start
 pub data OfStart (serial port first second : ℕ) : Refusal → Type 0 where
+  -- 10: there is no such serial number or port
   unitUnknown : unitKnown serial port ≡ false → OfStart serial port first second BadStart
+  -- else 9: the traces have lengths that they may not have
   tracesUnfit : unitKnown serial port ≡ true → tracesFit first second ≡ false →
       OfStart serial port first second BadTraces
 

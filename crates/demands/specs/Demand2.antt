@@ -38,9 +38,11 @@ use Rattle.demands.specs.Written.{written}
 
 -- ---- the settings, as commands name them
 
--- where a value is: at an entry of the settings table, or in one of the enables *ESE, *SRE, LIAE and ERRE
+-- where a value is
 pub data Place : Type 0 where
+  -- at an entry of the settings table
   atEntry : ℕ → Place
+  -- in one of the enables *ESE, *SRE, LIAE and ERRE
   atEnable : Register → Place
 
 -- a setting: the text of its query, the text that sends a reply back, and where its values are
@@ -64,11 +66,15 @@ channelled name i held =
 
 -- every setting, channel and enable, by what the names mean
 pub data IsSetting : Address → Type 0 where
+  -- a setting without channels
   alone : (name : List ℕ) (entry : ℕ) → meaningOf name ≡ Setting entry → IsSetting (plainly name (atEntry entry))
+  -- channel i of a setting with one value for each channel
   channel : (name : List ℕ) (base channels i : ℕ) → meaningOf name ≡ Channel base channels → 1 ≤ i → i ≤ channels →
       IsSetting (channelled name i (atEntry (base + (i - 1)) ∷ []))
+  -- channel i of a setting with two values for each channel
   pair : (name : List ℕ) (base channels i : ℕ) → meaningOf name ≡ ChannelPair base channels → 1 ≤ i → i ≤ channels →
       IsSetting (channelled name i (atEntry (base + 2 * (i - 1)) ∷ atEntry (behind (base + 2 * (i - 1))) ∷ []))
+  -- an enable
   enable : (name : List ℕ) (which : Register) → meaningOf name ≡ Enable which →
       IsSetting (plainly name (atEnable which))
 
@@ -113,12 +119,17 @@ pub record Ready (m : Module) (one two : List ℕ) : Type 0 where
 abbrev pub answered : List ℕ → Module → List ℕ → List ℕ → Call
 answered out m one two = record { after = m; one = one; two = two; out = out; told = toldOf Passed (length out) }
 
--- the settings that a state can refuse by 3: FREQ, HARM, FMOD, OFLT and SEND
+-- the settings that a state can refuse by 3
 pub data CanRefuse : List Place → Type 0 where
+  -- FREQ
   frequency : CanRefuse (atEntry freq ∷ [])
+  -- HARM
   harmonic : CanRefuse (atEntry harm ∷ [])
+  -- FMOD
   reference : CanRefuse (atEntry fmod ∷ [])
+  -- OFLT
   constant : CanRefuse (atEntry oflt ∷ [])
+  -- SEND
   end : CanRefuse (atEntry send ∷ [])
 
 -- no other value changes but the time constant, which shortens where the detection frequency rises above 200 Hz
@@ -126,13 +137,14 @@ abbrev pub OthersStay : List Place → State → State → Type 0
 OthersStay places before after =
     (p : Place) → (List·Memᴰ p places → ⊥) → (p ≡ atEntry oflt → ⊥) → valueAt after p ≡ valueAt before p
 
--- what comes of sending values back to a module: they are set, with no reply and no trace point changed; or, where its
--- state does not allow them, refusal 3 at the line's first command, with its error bit and nothing else
+-- what comes of sending values back to a module
 pub data SentBack (places : List Place) (values : List ℕ) (t : Module) (one two : List ℕ) : Call → Type 0 where
+  -- they are set, with no reply and no trace point changed
   taken : (after : Module) → after .queue ≡ t .queue → valuesAt (after .state) places ≡ values →
       OthersStay places (t .state) (after .state) →
       SentBack places values t one two
       (record { after = after; one = one; two = two; out = []; told = toldOf Passed 0 })
+  -- where the state does not allow them, refusal 3 at the line's first command, with its error bit and nothing else
   refused : CanRefuse places →
       SentBack places values t one two
       (record {

@@ -162,17 +162,21 @@ pub record Holds (history : History) (s : State) (one two : List ℕ) : Type 0 w
 -- a module with its traces after any calls from a start on, each with the traces that the call before it left, and its
 -- history
 pub data Stored : History → Module → List ℕ → List ℕ → Type 0 where
+  -- by a start, refused or not
   byStart : (serial port first second : ℕ) (one two : List ℕ) →
       Stored [] (startOf serial port first second .after) one two
+  -- by a line handed over whole
   byLine : (room : ℕ) (line : List ℕ) (history : History) (m : Module) (one two : List ℕ) →
       Stored history m one two →
       Stored (afterLineCall room line m one two history)
       (lineCall room line m one two .after) (lineCall room line m one two .one) (lineCall room line m one two .two)
+  -- by a byte
   byByte : (room b : ℕ) (mark : Bool) (history : History) (m : Module) (one two : List ℕ) →
       Stored history m one two →
       Stored (afterByteCall room b mark m one two history)
       (byteCall room b mark m one two .after)
       (byteCall room b mark m one two .one) (byteCall room b mark m one two .two)
+  -- by an event
   byEvent : (e : Event) (history : History) (m : Module) (one two : List ℕ) → Stored history m one two →
       Stored (afterEventCall e m one two history)
       (eventCall e m one two .after) (eventCall e m one two .one) (eventCall e m one two .two)

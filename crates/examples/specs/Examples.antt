@@ -22,19 +22,25 @@ use Rattle.verdict.specs.Said.{Said, ok, no, said}
 
 -- m, a whole number with its sign
 pub data Whole : Type 0 where
+  -- not below zero
   plus : ℕ → Whole
+  -- below zero
   minus : ℕ → Whole
 
--- an example: a line handed over whole, the float that TRCB sends for a point, or a script of two lines at a capacity
+-- an example
 pub data Example : Type 0 where
+  -- a line handed over whole
   line : (text : String) → Example
+  -- the float that TRCB sends for a point
   trcb : (m : Whole) (e : ℕ) → Example
+  -- a script of two lines at a capacity
   script : (capacity : ℕ) (first second : String) → Example
 
--- what is seen of one: of a line its refusal, place and length, the settings after it and the reply bytes; of a script
--- `ok`, or `no` with line, place and refusal
+-- what is seen of an example
 pub data Seen : Type 0 where
+  -- of a line: its refusal, place and length, the settings after it and the reply bytes
   answer : Numbers → (kept : Settings) (reply : List ℕ) → Seen
+  -- of a script: `ok`, or `no` with line, place and refusal
   verdict : Said → Seen
 
 -- ---- what is seen, by the definitions that the public calls' contracts cite
@@ -110,7 +116,7 @@ pub record Row : Type 0 where
 abbrev pub row : Example → Seen → Row
 row e s = record { example = e; shows = s }
 
--- the examples in document 01's order; a setting that is kept is queried in the same line
+-- the examples in document 01's order; where one sets a value, it is queried in the same line
 unfoldable pub table : List Row
 table =
     -- minus half a turn becomes half a turn

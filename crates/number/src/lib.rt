@@ -63,7 +63,7 @@ fn one_if(flag: bool) -> u64
     0
 }
 
-// Whether the number lies in the range, tested on its exact value.
+// Whether the number is in the range, tested on its exact value.
 fn fits(range: Range, q: Quantity) -> bool
     requires { ⌜ q .whole < cap ⌝ }
     ensures { λ r. ⌜ r ≡ fitsRange range q ⌝ }

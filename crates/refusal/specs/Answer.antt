@@ -1,12 +1,9 @@
--- A line's answer, which refusal drops the rest of a line, and what a call reports: document 01, "Refusal numbers" and
--- "Lines and commands".
+-- A line's answer, which refusal drops the rest of a line, and what is told: document 01, "Refusal numbers" and "Lines and commands".
 use Prim.Native.Nat.{ℕ}
 use mathlib.Core.Bool.{Bool, true, false}
 use Rattle.refusal.specs.Meaning.{meaningOf}
 use Rattle.refusal.specs.declared.Refusal.{Refusal}
-use Rattle.refusal.specs.declared.Refusal.the-variants.{Malformed, OutOfRange, NotAllowed, NoRoom, LongLine}
-use Rattle.refusal.specs.declared.Refusal.the-variants.{BadEvent, NoReset, LongScriptLine}
-use Rattle.refusal.specs.declared.Refusal.the-variants.{BadTraces, BadStart, BadState}
+use Rattle.refusal.specs.declared.Refusal.the-variants.{Malformed, OutOfRange, NotAllowed, NoRoom, LongLine, BadEvent, NoReset, LongScriptLine, BadTraces, BadStart, BadState}
 use Rattle.refusal.specs.declared.Outcome.{Outcome}
 use Rattle.refusal.specs.declared.Outcome.the-variants as outcome
 use Rattle.refusal.specs.declared.Answer.{Answer}
@@ -14,13 +11,13 @@ use Rattle.refusal.specs.declared.Answer.the-variants.{Passed, Refused}
 use Rattle.refusal.specs.declared.Told.{Told}
 use Rattle.refusal.specs.declared.Numbers.{Numbers}
 
--- a line's answer once its command at a place has come to an outcome: the first refusal stays
+-- "A line's answer is its first refusal and place .., or 0."
 unfoldable pub firstOf : Answer → Outcome → ℕ → Answer
 firstOf Passed outcome.Done place = Passed
 firstOf Passed (outcome.Refused r) place = Refused r place
 firstOf (Refused r earlier) told place = Refused r earlier
 
--- whether it is refusal 4, the only one that stops a line
+-- "A refused command does not stop the rest of the line, save under 4"
 unfoldable pub isNoRoom : Refusal → Bool
 isNoRoom Malformed = false
 isNoRoom OutOfRange = false
@@ -34,12 +31,10 @@ isNoRoom BadTraces = false
 isNoRoom BadStart = false
 isNoRoom BadState = false
 
--- whether an outcome drops the rest of its line
 unfoldable pub drops : Outcome → Bool
 drops outcome.Done = false
 drops (outcome.Refused r) = isNoRoom r
 
--- the report of an answer and a reply's length
 abbrev pub toldOf : Answer → ℕ → Told
 toldOf a n = record { answer = a; length = n }
 

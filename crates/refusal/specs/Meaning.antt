@@ -1,39 +1,31 @@
--- The number and the standard event bits of each refusal: document 01, "Refusal numbers" and "Events, status,
--- identity".
+-- The number and the standard event bits of each refusal: document 01, "Refusal numbers" and "Events, status, identity".
 use Prim.Native.Nat.{ℕ, _^_}
 use Rattle.refusal.specs.declared.Refusal.{Refusal}
-use Rattle.refusal.specs.declared.Refusal.the-variants.{Malformed, OutOfRange, NotAllowed, NoRoom, LongLine}
-use Rattle.refusal.specs.declared.Refusal.the-variants.{BadEvent, NoReset, LongScriptLine}
-use Rattle.refusal.specs.declared.Refusal.the-variants.{BadTraces, BadStart, BadState}
+use Rattle.refusal.specs.declared.Refusal.the-variants.{Malformed, OutOfRange, NotAllowed, NoRoom, LongLine, BadEvent, NoReset, LongScriptLine, BadTraces, BadStart, BadState}
 use Rattle.refusal.specs.declared.Meaning.{Meaning}
 use Rattle.refusal.specs.declared.Outcome.{Outcome}
 use Rattle.refusal.specs.declared.Outcome.the-variants.{Done, Refused}
 
--- standard event bit 0, input: a line that is too long
+-- "Standard event bits: 0 INP, 2 QRY, 4 EXE, 5 CMD"
 abbrev pub inp : ℕ
 inp = 2 ^ 0
 
--- standard event bit 2, query: a reply without room
 abbrev pub qry : ℕ
 qry = 2 ^ 2
 
--- standard event bit 4, execution: a command that cannot be done
 abbrev pub exe : ℕ
 exe = 2 ^ 4
 
--- standard event bit 5, command: a text that is no command
 abbrev pub cmd : ℕ
 cmd = 2 ^ 5
 
--- no bit
 abbrev pub none : ℕ
 none = 0
 
--- a refusal's number and its bits
 abbrev numbered : ℕ → ℕ → Meaning
 numbered n b = record { number = n; bits = b }
 
--- the number and the bits of each refusal
+-- the table of refusal numbers, row by row
 abbrev pub meaningOf : Refusal → Meaning
 meaningOf Malformed = numbered 1 cmd
 meaningOf OutOfRange = numbered 2 exe

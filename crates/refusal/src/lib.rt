@@ -1,5 +1,4 @@
-// The refusals of document 01, with the number and the standard event bit of each; a line's answer, its first refusal,
-// and what a call reports.
+// The refusals of document 01, with the number and the standard event bit of each; a line's answer, its first refusal, and what is told of it.
 ghost use mathlib.Core.Path.{_≡_};
 ghost use Rattle.refusal.specs.Meaning.{meaningOf, numberOf};
 ghost use Rattle.refusal.specs.Answer.{firstOf, isNoRoom, drops, numbersOf};
@@ -30,19 +29,15 @@ pub enum Refusal {
     BadState,
 }
 
-// What came of a command, an event, a start or a poll.
+// What is told of a command, a line, an event or a start: done, or refused.
 pub enum Outcome {
-    // It was done.
     Done,
-    // It was refused, for this reason.
     Refused(Refusal),
 }
 
-// A line's answer.
+// A line's answer: nothing refused, or the first refusal and the place of its command, from 1.
 pub enum Answer {
-    // No command was refused.
     Passed,
-    // The first refusal, and the place of its command, from 1; place 0 where the line itself was refused.
     Refused(Refusal, u32),
 }
 
@@ -64,27 +59,22 @@ pub struct Numbers {
     pub length: usize,
 }
 
-// What a refusal is outside: its number, and its mark in the standard event register.
+// The number of a refusal in document 01, and the standard event bits that it sets.
 pub struct Meaning {
-    // Its number in document 01.
+    // The number.
     pub number: u8,
-    // The standard event bits that it sets.
+    // The bits.
     pub bits: u8,
 }
 
-// Standard event bit 0, input: a line that is too long.
-const INP: u8 = 0x01;
+const INP: u8 = 1;
 
-// Standard event bit 2, query: a reply without room.
-const QRY: u8 = 0x04;
+const QRY: u8 = 4;
 
-// Standard event bit 4, execution: a command that cannot be done.
-const EXE: u8 = 0x10;
+const EXE: u8 = 16;
 
-// Standard event bit 5, command: a text that is no command.
-const CMD: u8 = 0x20;
+const CMD: u8 = 32;
 
-// The number and the standard event bits of a refusal.
 pub fn meaning_of(refusal: Refusal) -> Meaning
     ensures { λ r. ⌜ r ≡ meaningOf refusal ⌝ }
 {
@@ -124,7 +114,7 @@ pub fn meaning_of(refusal: Refusal) -> Meaning
     }
 }
 
-// The number of an outcome: the refusal's, 0 where nothing is refused.
+// The number of an outcome: its refusal's, 0 where nothing is refused.
 pub fn number_of(outcome: Outcome) -> u8
     ensures { λ r. ⌜ r ≡ numberOf outcome ⌝ }
 {
@@ -150,7 +140,6 @@ pub fn first_of(answer: Answer, outcome: Outcome, place: u32) -> Answer
     }
 }
 
-// Whether it is refusal 4.
 fn is_no_room(refusal: Refusal) -> bool
     ensures { λ r. ⌜ r ≡ isNoRoom refusal ⌝ }
 {

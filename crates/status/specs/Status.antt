@@ -90,7 +90,7 @@ withEnableByte e Service x =
 withEnableByte e Lia x = record { standard = e .standard; service = e .service; lia = x; errors = e .errors }
 withEnableByte e Errors x = record { standard = e .standard; service = e .service; lia = e .lia; errors = x }
 
--- the enables with one set to a value, of which only the low byte counts
+-- the enables with one set to the low byte of a value
 unfoldable pub withEnable : Enables → Register → ℕ → Enables
 withEnable e which value = withEnableByte e which (value % 0x100)
 

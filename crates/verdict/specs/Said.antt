@@ -4,9 +4,11 @@ use Rattle.refusal.specs.Meaning.{meaningOf}
 use Rattle.verdict.specs.declared.Verdict.{Verdict}
 use Rattle.verdict.specs.declared.Verdict.the-variants.{Fine, No}
 
--- nothing is refused; or the line, the place and the number of the refusal
+-- what the script check says
 pub data Said : Type 0 where
+  -- nothing is refused
   ok : Said
+  -- the line, the place and the number of the refusal
   no : (line place refusal : ℕ) → Said
 
 -- document 01's values of each verdict; the promise of the script check uses it
