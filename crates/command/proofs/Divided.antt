@@ -61,21 +61,24 @@ pub several : (s : List ℕ) → span comma s < length s → arguments s ≡ bef
 several s h = some s (omega arith) ∙ parts-more comma s h
 
 -- what holds of one argument and more holds of a text that is not empty
-pub some-more : (s : List ℕ) → 1 ≤ length s → (P : List (List ℕ) → Type 0) → ((a : List ℕ) (more : List (List ℕ)) → P (a ∷ more)) → P (arguments s)
+pub some-more : (s : List ℕ) → 1 ≤ length s → (P : List (List ℕ) → Type 0) →
+    ((a : List ℕ) (more : List (List ℕ)) → P (a ∷ more)) → P (arguments s)
 some-more s h P f = rw (some s h) (by (parts comma s) (parts-some s)) where
   by : (ps : List (List ℕ)) → Some ps → P ps
   by [] t = absurd t
   by (p ∷ ps) t = f p ps
 
 -- what holds of none and of two and more holds of a text that is not one argument
-pub not-alone : (s : List ℕ) → aloneOf s ≡ false → (P : List (List ℕ) → Type 0) → P [] → ((a b : List ℕ) (more : List (List ℕ)) → P (a ∷ b ∷ more)) → P (arguments s)
+pub not-alone : (s : List ℕ) → aloneOf s ≡ false → (P : List (List ℕ) → Type 0) → P [] →
+    ((a b : List ℕ) (more : List (List ℕ)) → P (a ∷ b ∷ more)) → P (arguments s)
 unfolding aloneOf
 not-alone s e P n f = by (leb 1 (length s)) refl (eqb (span comma s) (length s)) refl e where
   two-or-more : (a : List ℕ) (ps : List (List ℕ)) → Some ps → P (a ∷ ps)
   two-or-more a [] t = absurd t
   two-or-more a (p ∷ ps) t = f a p ps
 
-  by : (t : Bool) → leb 1 (length s) ≡ t → (u : Bool) → eqb (span comma s) (length s) ≡ u → (t && u) ≡ false → P (arguments s)
+  by : (t : Bool) → leb 1 (length s) ≡ t → (u : Bool) → eqb (span comma s) (length s) ≡ u → (t && u) ≡ false →
+      P (arguments s)
   by true p true q z = never (cc)
   by true p false q z =
       let h : span comma s < length s = omega (arith, span-le comma s, eqb-false (span comma s) (length s) q) in
@@ -86,7 +89,8 @@ not-alone s e P n f = by (leb 1 (length s)) refl (eqb (span comma s) (length s))
 pub alone-true : (s : List ℕ) → aloneOf s ≡ true → arguments s ≡ s ∷ []
 unfolding aloneOf
 alone-true s = by (leb 1 (length s)) refl (eqb (span comma s) (length s)) refl where
-  by : (t : Bool) → leb 1 (length s) ≡ t → (u : Bool) → eqb (span comma s) (length s) ≡ u → (t && u) ≡ true → arguments s ≡ s ∷ []
+  by : (t : Bool) → leb 1 (length s) ≡ t → (u : Bool) → eqb (span comma s) (length s) ≡ u → (t && u) ≡ true →
+      arguments s ≡ s ∷ []
   by true p true q e = single s (leb-true 1 (length s) p) (eqb-true (span comma s) (length s) q)
   by true p false q e = never (cc)
   by false p u q e = never (cc)
@@ -125,8 +129,10 @@ two-many d e a b (p ∷ ps) h = refl
 pub two-at : (s : List ℕ) (k : ℕ) → twoOf s ≡ At k → (k < length s) × (arguments s ≡ take k s ∷ drop (suc k) s ∷ [])
 unfolding twoOf
 two-at s k = by (ltb (span comma s) (length s)) refl (ltb (span comma (after comma s)) (length (after comma s))) refl where
-  by : (t : Bool) → ltb (span comma s) (length s) ≡ t → (u : Bool) → ltb (span comma (after comma s)) (length (after comma s)) ≡ u →
-      cond t (cond u Not (At (span comma s))) Not ≡ At k → (k < length s) × (arguments s ≡ take k s ∷ drop (suc k) s ∷ [])
+  by : (t : Bool) → ltb (span comma s) (length s) ≡ t → (u : Bool) →
+      ltb (span comma (after comma s)) (length (after comma s)) ≡ u →
+      cond t (cond u Not (At (span comma s))) Not ≡ At k →
+      (k < length s) × (arguments s ≡ take k s ∷ drop (suc k) s ∷ [])
   by true p true q e = never (cc)
   by true p false q e =
       let h : span comma s < length s = ltb-true (span comma s) (length s) p in
@@ -142,7 +148,8 @@ two-not d e s = by (ltb (span comma s) (length s)) refl (ltb (span comma (after 
   few true p l = rw (single s (leb-true 1 (length s) p) l)
   few false p l = rw (none s (leb-false 1 (length s) p))
 
-  by : (t : Bool) → ltb (span comma s) (length s) ≡ t → (u : Bool) → ltb (span comma (after comma s)) (length (after comma s)) ≡ u →
+  by : (t : Bool) → ltb (span comma s) (length s) ≡ t → (u : Bool) →
+      ltb (span comma (after comma s)) (length (after comma s)) ≡ u →
       cond t (cond u Not (At (span comma s))) Not ≡ Not → readTwo d e (arguments s) ≡ pair.Not
   by true p true q z =
       rw (several s (ltb-true (span comma s) (length s) p), parts-more comma (after comma s) (ltb-true (span comma (after comma s)) (length (after comma s)) q))
@@ -157,7 +164,8 @@ both (Number a) NotNumber = pair.Not
 both NotNumber r = pair.Not
 
 module _ (d e : ℕ) (s : List ℕ) (k : ℕ) (at : twoOf s ≡ At k) where
-  pub two-read : readTwo d e (arguments s) ≡ both (readOf d (take k s)) (readOf e (take (length s - (k + 1)) (drop (k + 1) s)))
+  pub two-read : readTwo d e (arguments s)
+      ≡ both (readOf d (take k s)) (readOf e (take (length s - (k + 1)) (drop (k + 1) s)))
   unfolding readTwo readOf
   two-read = rw (two-at s k at .1, rest-from s (k + 1), add-one k) (by (isNumber (take k s)) (isNumber (drop (suc k) s))) where
     by : (t u : Bool) → cond (t && u) (pair.Numbers (kept d (take k s)) (kept e (drop (suc k) s))) pair.Not
@@ -176,7 +184,8 @@ joined-not : (r : Reading) → joined r pair.Not ≡ triple.Not
 joined-not (Number a) = refl
 joined-not NotNumber = refl
 
-three-join : (d e f : ℕ) (a : List ℕ) (ps : List (List ℕ)) → readThree d e f (a ∷ ps) ≡ joined (readOf d a) (readTwo e f ps)
+three-join : (d e f : ℕ) (a : List ℕ) (ps : List (List ℕ)) →
+    readThree d e f (a ∷ ps) ≡ joined (readOf d a) (readTwo e f ps)
 unfolding readThree readTwo readOf
 three-join d e f a [] = sym (joined-not (readOf d a))
 three-join d e f a (b ∷ []) = sym (joined-not (readOf d a))
@@ -194,12 +203,14 @@ two-parts e f [] = refl
 two-parts e f (b ∷ bs) = refl
 
 pub three-more : (d e f : ℕ) (s : List ℕ) (k : ℕ) → k ≡ span comma s → k < length s →
-    readThree d e f (arguments s) ≡ joined (readOf d (take k s)) (readTwo e f (arguments (take (length s - (k + 1)) (drop (k + 1) s))))
+    readThree d e f (arguments s)
+    ≡ joined (readOf d (take k s)) (readTwo e f (arguments (take (length s - (k + 1)) (drop (k + 1) s))))
 three-more d e f s k is h =
     let l : span comma s < length s = omega arith in
     rw (rest-from s (k + 1), add-one k, is) (ap (readThree d e f) (several s l) ∙ three-join d e f _ _ ∙ rw (two-parts e f (after comma s)))
 
-pub three-few : (d e f : ℕ) (s : List ℕ) (k : ℕ) → k ≡ span comma s → length s ≤ k → triple.Not ≡ readThree d e f (arguments s)
+pub three-few : (d e f : ℕ) (s : List ℕ) (k : ℕ) → k ≡ span comma s → length s ≤ k →
+    triple.Not ≡ readThree d e f (arguments s)
 unfolding readThree
 three-few d e f s k is l = by (leb 1 (length s)) refl where
   by : (t : Bool) → leb 1 (length s) ≡ t → triple.Not ≡ readThree d e f (arguments s)

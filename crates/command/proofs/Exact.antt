@@ -18,8 +18,12 @@ use Rattle.name.specs.declared.Register.{Register}
 use Rattle.name.specs.declared.Form.{Form}
 use Rattle.command.specs.Arguments.{arguments}
 use Rattle.command.specs.Parts.{aloneOf}
-use Rattle.command.specs.Parsed.{malformed, with, taken, one, two, three, wholeRange, wholeOf, setSetting, setChannel, setChannelPair, setEnable, queryChannel, queryChannelPair, queryEnable, queryStatus, queryTrace, alone}
-use Rattle.command.specs.Parts.{kept, readOne, readTwo, readThree, settingTaken, channelTaken, pairTaken, enableTaken, enableBitTaken, channelAsked, pairAsked, enableBitAsked, statusBitAsked, traceAsked}
+use Rattle.command.specs.Parsed.{malformed, with, taken, one, two, three, wholeRange, wholeOf, setSetting}
+use Rattle.command.specs.Parsed.{setChannel, setChannelPair, setEnable, queryChannel, queryChannelPair}
+use Rattle.command.specs.Parsed.{queryEnable, queryStatus, queryTrace, alone}
+use Rattle.command.specs.Parts.{kept, readOne, readTwo, readThree, settingTaken, channelTaken, pairTaken}
+use Rattle.command.specs.Parts.{enableTaken, enableBitTaken, channelAsked, pairAsked, enableBitAsked}
+use Rattle.command.specs.Parts.{statusBitAsked, traceAsked}
 use Rattle.command.specs.declared.SetArgument.the-variants as set
 use Rattle.command.specs.declared.QueryArgument.the-variants as query
 use Rattle.command.specs.declared.Kind.{Kind}
@@ -74,38 +78,46 @@ module _ (d e f : ℕ) (k : List ℕ → List ℕ → List ℕ → Parsed) (j : 
   three-is (a ∷ []) = refl
   three-is (a ∷ b ∷ []) = refl
   three-is (a ∷ b ∷ c ∷ []) = by (isNumber a && (isNumber b && isNumber c)) where
-    by : (t : Bool) → cond t (k a b c) malformed ≡ of-three j (cond t (triple.Numbers (kept d a) (kept e b) (kept f c)) triple.Not)
+    by : (t : Bool) →
+        cond t (k a b c) malformed ≡ of-three j (cond t (triple.Numbers (kept d a) (kept e b) (kept f c)) triple.Not)
     by true = same a b c
     by false = refl
   three-is (a ∷ b ∷ c ∷ g ∷ more) = refl
 
 -- a whole number of 32 bits
-pub whole-is : (low high : ℕ) → high < 4294967295 → (a : List ℕ) → takenOf (wholeRange low high) (kept 0 a) ≡ wholeOf low high a
+pub whole-is : (low high : ℕ) → high < 4294967295 → (a : List ℕ) →
+    takenOf (wholeRange low high) (kept 0 a) ≡ wholeOf low high a
 whole-is low high h a = taken-exact (exactOf 0 a) (under-pos 0 a) (wholeRange low high) (omega arith)
 
-pub set-setting : (entry : ℕ) (args : List (List ℕ)) → setSetting entry args ≡ of-one (settingTaken entry) (readOne (rowOf entry .decimals) args)
+pub set-setting : (entry : ℕ) (args : List (List ℕ)) →
+    setSetting entry args ≡ of-one (settingTaken entry) (readOne (rowOf entry .decimals) args)
 unfolding setSetting settingTaken
 set-setting entry = one-is (rowOf entry .decimals) _ _ λ a. rw (value-exact entry a)
 
 module _ (base channels : ℕ) (h : channels < 4294967295) where
-  pub set-channel : (args : List (List ℕ)) → setChannel base channels args ≡ of-two (channelTaken base channels) (readTwo 0 (rowOf base .decimals) args)
+  pub set-channel : (args : List (List ℕ)) →
+      setChannel base channels args ≡ of-two (channelTaken base channels) (readTwo 0 (rowOf base .decimals) args)
   unfolding setChannel channelTaken
   set-channel = two-is 0 (rowOf base .decimals) _ _ λ i x. rw (whole-is 1 channels h i, value-exact base x)
 
   pub set-pair : (args : List (List ℕ)) →
-      setChannelPair base channels args ≡ of-three (pairTaken base channels) (readThree 0 (rowOf base .decimals) (rowOf (base + 1) .decimals) args)
+      setChannelPair base channels args
+      ≡ of-three (pairTaken base channels) (readThree 0 (rowOf base .decimals) (rowOf (base + 1) .decimals) args)
   unfolding setChannelPair pairTaken
   set-pair = three-is 0 (rowOf base .decimals) (rowOf (base + 1) .decimals) _ _ λ i x y. rw (whole-is 1 channels h i, value-exact base x, value-exact (base + 1) y)
 
-  pub query-channel : (args : List (List ℕ)) → queryChannel base channels args ≡ of-one (channelAsked base channels) (readOne 0 args)
+  pub query-channel : (args : List (List ℕ)) →
+      queryChannel base channels args ≡ of-one (channelAsked base channels) (readOne 0 args)
   unfolding queryChannel channelAsked
   query-channel = one-is 0 _ _ λ i. rw (whole-is 1 channels h i)
 
-  pub query-pair : (args : List (List ℕ)) → queryChannelPair base channels args ≡ of-one (pairAsked base channels) (readOne 0 args)
+  pub query-pair : (args : List (List ℕ)) →
+      queryChannelPair base channels args ≡ of-one (pairAsked base channels) (readOne 0 args)
   unfolding queryChannelPair pairAsked
   query-pair = one-is 0 _ _ λ i. rw (whole-is 1 channels h i)
 
-pub query-trace : (form : Form) (args : List (List ℕ)) → queryTrace form args ≡ of-three (traceAsked form) (readThree 0 0 0 args)
+pub query-trace : (form : Form) (args : List (List ℕ)) →
+    queryTrace form args ≡ of-three (traceAsked form) (readThree 0 0 0 args)
 unfolding queryTrace traceAsked
 query-trace form =
     three-is 0 0 0 _ _ λ i j k. rw (whole-is 1 2 (omega arith) i, whole-is 0 16383 (omega arith) j, whole-is 1 16383 (omega arith) k)

@@ -19,7 +19,8 @@ use Rattle.command.specs.Arguments.{arguments}
 use Rattle.command.specs.Parsed.{parsedOf, malformed, setWith, queryWith}
 use Rattle.command.specs.declared.Parsed.the-variants.{Empty}
 
-pub four-word : (s : List ℕ) → 4 ≤ length s → (getD s 0 0 * 256 + getD s 1 0) * 65536 + (getD s 2 0 * 256 + getD s 3 0) ≡ word (take 4 s)
+pub four-word : (s : List ℕ) → 4 ≤ length s →
+    (getD s 0 0 * 256 + getD s 1 0) * 65536 + (getD s 2 0 * 256 + getD s 3 0) ≡ word (take 4 s)
 four-word [] h = absurd (omega arith)
 four-word (a ∷ []) h = absurd (omega arith)
 four-word (a ∷ b ∷ []) h = absurd (omega arith)
@@ -49,7 +50,8 @@ module _ (s : List ℕ) (w : ℕ) (m : Meaning) (h : 4 ≤ length s) (f : (i : �
   meaning-is : m ≡ meaningOf (take 4 s)
   meaning-is = found ∙ rw e (found-word (take 4 s) (four-bytes s h f))
 
-  parsed-is : (t : Bool) → begins 63 (drop 4 s) ≡ t → parsedOf s ≡ cond t (queryWith m (arguments (drop 5 s))) (setWith m (arguments (drop 4 s)))
+  parsed-is : (t : Bool) → begins 63 (drop 4 s) ≡ t →
+      parsedOf s ≡ cond t (queryWith m (arguments (drop 5 s))) (setWith m (arguments (drop 4 s)))
   unfolding parsedOf
   parsed-is t b = by s h b meaning-is where
     by : (s : List ℕ) → 4 ≤ length s → begins 63 (drop 4 s) ≡ t → m ≡ meaningOf (take 4 s) →
@@ -62,12 +64,14 @@ module _ (s : List ℕ) (w : ℕ) (m : Meaning) (h : 4 ≤ length s) (f : (i : �
   parsed-plain l =
       rw (rest-from s 4) (sym (parsed-is false (rw (drop-of-length-le s {i = 4} (omega arith)))))
 
-  pub parsed-query : 5 ≤ length s → getD s 4 0 ≡ 63 → queryWith m (arguments (take (length s - 5) (drop 5 s))) ≡ parsedOf s
+  pub parsed-query : 5 ≤ length s → getD s 4 0 ≡ 63 →
+      queryWith m (arguments (take (length s - 5) (drop 5 s))) ≡ parsedOf s
   unfolding begins
   parsed-query l z =
       rw (rest-from s 5) (sym (parsed-is true (rw (drop-cons s 4 0 l, eq-eqb (getD s 4 0) 63 z))))
 
-  pub parsed-set : 5 ≤ length s → (getD s 4 0 ≡ 63 → ⊥) → setWith m (arguments (take (length s - 4) (drop 4 s))) ≡ parsedOf s
+  pub parsed-set : 5 ≤ length s → (getD s 4 0 ≡ 63 → ⊥) →
+      setWith m (arguments (take (length s - 4) (drop 4 s))) ≡ parsedOf s
   unfolding begins
   parsed-set l z =
       rw (rest-from s 4) (sym (parsed-is false (rw (drop-cons s 4 0 l, ne-eqb (getD s 4 0) 63 z))))

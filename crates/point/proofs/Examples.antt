@@ -15,7 +15,8 @@ sent low e = littleEndian (floatOf (e * 65536 + low))
 abbrev minus : ℕ → ℕ
 minus n = 65536 - n
 
--- "TRCB of (m, e): (1,124) is 00 00 80 3F, (-3,123) is 00 00 C0 BF, (32767,124) is 00 FE FF 46, (-32768,236) is 00 00 00 FF"
+-- "TRCB of (m, e): (1,124) is 00 00 80 3F, (-3,123) is 00 00 C0 BF, (32767,124) is 00 FE FF 46, (-32768,236) is 00 00
+-- 00 FF"
 pub examples :
     (sent 1 124 ≡ 0x00 ∷ 0x00 ∷ 0x80 ∷ 0x3F ∷ [])
     × (sent (minus 3) 123 ≡ 0x00 ∷ 0x00 ∷ 0xC0 ∷ 0xBF ∷ [])

@@ -64,7 +64,8 @@ module _ (front back : List ℕ) (index : ℕ) where
   pub in-front : (h : index < length front) → getD front index 0 ≡ getD (front ++ back) index 48
   in-front h = within front 0 48 index h ∙ sym (List·getD-append front back 48 index h)
 
-  pub in-back : length front ≤ index → index - length front < length back → getD back (index - length front) 0 ≡ getD (front ++ back) index 48
+  pub in-back : length front ≤ index → index - length front < length back →
+      getD back (index - length front) 0 ≡ getD (front ++ back) index 48
   in-back h l =
       let e : length front + (index - length front) ≡ index = omega arith in
       within back 0 48 (index - length front) l ∙ sym (getD-append-add front back (index - length front) 48) ∙ ap (λ n. getD (front ++ back) n 48) e
@@ -73,7 +74,8 @@ module _ (front back : List ℕ) (index : ℕ) where
   after-both h l = sym (List·getD-eq-default (front ++ back) 48 {n = index} (omega (arith, length-append front back)))
 
 -- one digit more, under the cap
-pub grow : (ds : List ℕ) (n v d : ℕ) → v ≡ min cap (places ds 0 n) → d ≡ digit ds n → min cap (v * 10 + d) ≡ min cap (places ds 0 (n + 1))
+pub grow : (ds : List ℕ) (n v d : ℕ) → v ≡ min cap (places ds 0 n) → d ≡ digit ds n →
+    min cap (v * 10 + d) ≡ min cap (places ds 0 (n + 1))
 unfolding places
 grow ds n v d e f = rw (add-one n, zero-add n, e, f) (omega arith)
 

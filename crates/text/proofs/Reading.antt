@@ -14,7 +14,8 @@ use Rattle.text.specs.Text.{padded, places, plain}
 use Rattle.text.proofs.Digits.{padded-first, places-hold}
 
 -- no separator but a digit divides them
-pub span-padded : (sep : ℕ) → ((m : ℕ) → 48 + m % 10 ≡ sep → ⊥) → (k n : ℕ) (ys : List ℕ) → span sep (padded k n ++ ys) ≡ k + span sep ys
+pub span-padded : (sep : ℕ) → ((m : ℕ) → 48 + m % 10 ≡ sep → ⊥) → (k n : ℕ) (ys : List ℕ) →
+    span sep (padded k n ++ ys) ≡ k + span sep ys
 unfolding padded span
 span-padded sep f zero n ys = omega arith
 span-padded sep f (suc k) n ys =
@@ -54,7 +55,8 @@ shifted v x p r =
     let e : 48 + x - 48 ≡ x = omega arith in
     rw (e, add-mul, mul-assoc, add-assoc)
 
-pub decimal-padded : (k v n : ℕ) (ds : List ℕ) → decimalAfter v (padded k n ++ ds) ≡ decimalAfter (v * 10 ^ k + n % 10 ^ k) ds
+pub decimal-padded : (k v n : ℕ) (ds : List ℕ) →
+    decimalAfter v (padded k n ++ ds) ≡ decimalAfter (v * 10 ^ k + n % 10 ^ k) ds
 unfolding padded decimalAfter
 decimal-padded zero v n ds =
     let e : v ≡ v * 1 + n % 1 = omega (arith, mod-one n) in

@@ -15,7 +15,8 @@ unfolding fixed
 fixed-plain d n e = rw (e, div-one, append-nil)
 
 -- the whole part, the point and the decimals, added one after the other
-pub fixed-added : (xs : List ℕ) {a b c : List ℕ} (d n : ℕ) → (d ≡ 0 → ⊥) → a ≡ added xs (plain (n / 10 ^ d)) → b ≡ added a (point ∷ []) →
+pub fixed-added : (xs : List ℕ) {a b c : List ℕ} (d n : ℕ) → (d ≡ 0 → ⊥) → a ≡ added xs (plain (n / 10 ^ d)) →
+    b ≡ added a (point ∷ []) →
     c ≡ added b (padded d n) → c ≡ added xs (fixed d n)
 unfolding fixed
 fixed-added xs d n h p q r = rw (r, q, added-join, p, added-join, ne-eqb d 0 h)
