@@ -25,9 +25,7 @@ use Rattle.settings.specs.Setting.{settingOf}
 use Rattle.settings.specs.Allowed.{keeps}
 use Rattle.settings.proofs.Rows.{row-size, row-decimals}
 use Rattle.command.specs.Arguments.{comma, arguments}
-use Rattle.command.specs.Parsed.{parsedOf, taken, wholeRange, wholeOf, one, two, three, alone, setWith, queryWith}
-use Rattle.command.specs.Parsed.{setSetting, setChannel, setChannelPair, setEnable, queryEnable, queryChannel}
-use Rattle.command.specs.Parsed.{queryChannelPair, queryTrace}
+use Rattle.command.specs.Parsed.{parsedOf, taken, wholeRange, wholeOf, one, two, three, alone, setWith, queryWith, setSetting, setChannel, setChannelPair, setEnable, queryEnable, queryChannel, queryChannelPair, queryTrace}
 use Rattle.command.proofs.Exact.{whole-is}
 use Rattle.command.specs.declared.SetArgument.the-variants as set
 use Rattle.command.specs.declared.QueryArgument.the-variants as query
@@ -35,16 +33,13 @@ use Rattle.command.specs.declared.Kind.{Kind}
 use Rattle.command.specs.declared.Kind.the-variants.{Set, Query}
 use Rattle.demands.specs.Written.{written}
 use Rattle.demands.proofs.Again.{whole, taken-whole, read-as, kept-size, written-again}
-use Rattle.demands.proofs.Bytes.{all, inNumber, inArguments, inCommand, all-append, in-arguments, in-command}
-use Rattle.demands.proofs.Bytes.{parts-free, parts-joined, begins-other, cleaned-same, arguments-some}
-use Rattle.demands.proofs.Bytes.{plain-bytes, plain-some, signed-bytes, signed-some}
+use Rattle.demands.proofs.Bytes.{all, inNumber, inArguments, inCommand, all-append, in-arguments, in-command, parts-free, parts-joined, begins-other, cleaned-same, arguments-some, plain-bytes, plain-some, signed-bytes, signed-some}
 use Rattle.demands.proofs.Meanings.{Name, Alike, alike-written, alike-keeps}
 use Rattle.demands.proofs.Says.{Says}
 
 -- a name of four bytes, and what follows it
 parsed-name : (name rest : List ℕ) → length name ≡ 4 →
-    parsedOf (name ++ rest)
-    ≡ cond (begins 63 rest) (queryWith (meaningOf name) (arguments (drop 1 rest))) (setWith (meaningOf name) (arguments rest))
+    parsedOf (name ++ rest) ≡ cond (begins 63 rest) (queryWith (meaningOf name) (arguments (drop 1 rest))) (setWith (meaningOf name) (arguments rest))
 unfolding parsedOf
 parsed-name [] rest h = absurd (omega arith)
 parsed-name (a ∷ []) rest h = absurd (omega arith)
@@ -55,20 +50,17 @@ parsed-name (a ∷ b ∷ c ∷ d ∷ e ∷ name) rest h = absurd (omega arith)
 
 -- a command of such a name, then "?", or other bytes of arguments
 module _ (name : List ℕ) (n : Name name) (m : Meaning) (means : meaningOf name ≡ m) (kind : Kind) where
-  says : (text : List ℕ) → length text ≤ 252 → all inCommand text ≡ true → parsedOf (name ++ text) ≡ taken kind →
-      Says (name ++ text) kind
+  says : (text : List ℕ) → length text ≤ 252 → all inCommand text ≡ true → parsedOf (name ++ text) ≡ taken kind → Says (name ++ text) kind
   says text l b e =
       let c = all-append inCommand name text (n .bytes) b in
       record { short = rw length-append (omega (arith, n .four)); kept = cleaned-same (name ++ text) c; single = parts-free inCommand 59 refl (name ++ text) c; read = e }
 
-  query-says : (args : List ℕ) → length args ≤ 251 → all inArguments args ≡ true →
-      queryWith m (arguments args) ≡ taken kind → Says (name ++ (63 ∷ args)) kind
+  query-says : (args : List ℕ) → length args ≤ 251 → all inArguments args ≡ true → queryWith m (arguments args) ≡ taken kind → Says (name ++ (63 ∷ args)) kind
   unfolding begins
   query-says args l b e =
       says (63 ∷ args) (omega arith) (in-command args b) (parsed-name name (63 ∷ args) (n .four) ∙ rw means e)
 
-  set-says : (args : List ℕ) → length args ≤ 252 → all inArguments args ≡ true →
-      setWith m (arguments args) ≡ taken kind → Says (name ++ args) kind
+  set-says : (args : List ℕ) → length args ≤ 252 → all inArguments args ≡ true → setWith m (arguments args) ≡ taken kind → Says (name ++ args) kind
   set-says args l b e =
       says args l (in-command args b) (parsed-name name args (n .four) ∙ rw (begins-other inArguments 63 refl args b, means) e)
 
@@ -136,8 +128,7 @@ text-three x y z b c d =
     arguments-some (x ++ comma ∷ rest) (joined-some x rest) ∙ parts-joined inNumber comma refl x rest b
     ∙ ap (λ l. x ∷ l) (text-two y z c d)
 
-joined-bytes : (x y : List ℕ) → all inNumber x ≡ true → all inArguments y ≡ true →
-    all inArguments (x ++ comma ∷ y) ≡ true
+joined-bytes : (x y : List ℕ) → all inNumber x ≡ true → all inArguments y ≡ true → all inArguments (x ++ comma ∷ y) ≡ true
 joined-bytes x y b c = all-append inArguments x (comma ∷ y) (in-arguments x b) c
 
 module _ (name : List ℕ) (n : Name name) where
@@ -223,10 +214,8 @@ module _ (name : List ℕ) (n : Name name) where
           ))
 
   -- a trace query
-  pub trace-asked : (form : Form) (t bin count : ℕ) → meaningOf name ≡ Trace form → 1 ≤ t → t ≤ 2 → bin ≤ 16383 →
-      1 ≤ count →
-      count ≤ 16383 →
-      Says (name ++ (63 ∷ (plain t ++ comma ∷ (plain bin ++ comma ∷ plain count)))) (Query (query.Trace form t bin count))
+  pub trace-asked : (form : Form) (t bin count : ℕ) → meaningOf name ≡ Trace form → 1 ≤ t → t ≤ 2 → bin ≤ 16383 → 1 ≤ count →
+      count ≤ 16383 → Says (name ++ (63 ∷ (plain t ++ comma ∷ (plain bin ++ comma ∷ plain count)))) (Query (query.Trace form t bin count))
   unfolding queryWith queryTrace three
   trace-asked form t bin count means low high far some most =
       let x = whole-again 1 2 t low high (omega arith) in
