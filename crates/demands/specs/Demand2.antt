@@ -137,14 +137,13 @@ abbrev pub OthersStay : List Place → State → State → Type 0
 OthersStay places before after =
     (p : Place) → (List·Memᴰ p places → ⊥) → (p ≡ atEntry oflt → ⊥) → valueAt after p ≡ valueAt before p
 
--- what comes of sending values back to a module
+-- what comes of sending values back to a module: they are set, with no reply and no trace point changed; or, where its
+-- state does not allow them, refusal 3 at the line's first command, with its error bit and nothing else
 pub data SentBack (places : List Place) (values : List ℕ) (t : Module) (one two : List ℕ) : Call → Type 0 where
-  -- they are set, with no reply and no trace point changed
   taken : (after : Module) → after .queue ≡ t .queue → valuesAt (after .state) places ≡ values →
       OthersStay places (t .state) (after .state) →
       SentBack places values t one two
       (record { after = after; one = one; two = two; out = []; told = toldOf Passed 0 })
-  -- where the state does not allow them, refusal 3 at the line's first command, with its error bit and nothing else
   refused : CanRefuse places →
       SentBack places values t one two
       (record {
