@@ -1,8 +1,8 @@
 -- The bounds of a word's parts, and what TRCB sends in each of its three cases. Assumes nothing.
-use Prim.Native.Nat.{ℕ, _-_, _%_, _≤_}
+use Prim.Native.Nat.{ℕ, _%_, _≤_}
 use native.Mathlib.Omega.{arith}
-use mathlib.Core.Bool.{Bool, true, false, cond, and-eq-true-iff}
-use mathlib.Core.Path.{_≡_, refl}
+use mathlib.Core.Bool.{Bool, true, false, and-eq-true-iff}
+use mathlib.Core.Path.{_≡_}
 use lib.Dec.{leb, eqb}
 use borrow.Author.Tests.{leb-true, leb-false, eq-eqb, ne-eqb}
 use Rattle.laws.proofs.Tests.{split, cond-by}
@@ -11,7 +11,9 @@ use Rattle.point.specs.Point.{isNegative, magnitudeOf, exponentOf, topBy
 pub magnitude-le : (w : ℕ) → magnitudeOf w ≤ 32768
 unfolding magnitudeOf
 magnitude-le w =
-    cond-by (λ n. n ≤ 32768) (isNegative w) (λ e. omega (arith, leb-true _ _ e)) (λ e. omega (arith, leb-false _ _ e))
+    let low = w % 65536 in
+    cond-by (λ n. n ≤ 32768) (isNegative w)
+    (λ e. omega (arith, leb-true 32768 low e)) (λ e. omega (arith, leb-false 32768 low e))
 
 -- m = 0 has no minus sign
 pub zero-positive : (w : ℕ) → magnitudeOf w ≡ 0 → isNegative w ≡ false

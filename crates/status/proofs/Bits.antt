@@ -9,6 +9,7 @@ use lib.Bits.{bitAnd, bitOr, and-step, or-step, and-shr, or-shr}
 use lib.Dec.{eqb, ltb}
 use lib.Pow.{pow-mono, pow-pos, shl-exact}
 use borrow.Author.Tests.{lt-ltb, eq-eqb, ne-eqb, eqb-true, not-false}
+use Rattle.laws.proofs.Tests.{cond-by}
 use Rattle.status.specs.Bits.{bitOf, withoutBit, withBit, meets, only, BitByBit}
 
 -- ---- one bit
@@ -151,12 +152,11 @@ with-one x i value h n = rw (lt-ltb i 8 h, ne-eqb value 0 n) (bit-or x (2 ^ i) i
 
 pub with-other : (x i value j : ℕ) → (i ≡ j → ⊥) → bitOf (withBit x i value) j ≡ bitOf x j
 unfolding withBit
-with-other x i value j d = by (ltb i 8) (eqb value 0)
-  where
-    by : (small none : Bool) → bitOf (cond small (cond none (withoutBit x i) (bitOr x (2 ^ i))) x) j ≡ bitOf x j
-    by true true = without-other x i j d
-    by true false = bit-or x (2 ^ i) j ∙ omega (arith, power-other i j d)
-    by false none = refl
+with-other x i value j d =
+    cond-by (λ y. bitOf y j ≡ bitOf x j) (ltb i 8)
+    (λ small. cond-by (λ y. bitOf y j ≡ bitOf x j) (eqb value 0) (λ none. without-other x i j d)
+      (λ some. bit-or x (2 ^ i) j ∙ omega (arith, power-other i j d)))
+    (λ large. refl)
 
 -- ---- the promise
 

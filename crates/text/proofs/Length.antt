@@ -1,13 +1,10 @@
 -- How long a number's text is at most: a value below 10 ^ 10 takes 12 bytes, so that two of them and a "," fit. Assumes nothing.
-use Prim.Native.Nat.{ℕ, _+_, _/_, _^_, _≤_, _<_}
-use mathlib.Core.Bool.{Bool, true, false, cond}
-use mathlib.Core.List.{[], _∷_}
+use Prim.Native.Nat.{ℕ, _+_, _^_, _≤_, _<_}
 use native.Mathlib.Omega.{arith}
 use lib.Dec.{ltb, eqb}
 use lib.ListN.{length, length-append}
-use Rattle.number.specs.Number.{minus, point}
 use Rattle.laws.proofs.Tests.{split}
-use Rattle.text.specs.Text.{padded, places, plain, fixed, sign, distance, signedText}
+use Rattle.text.specs.Text.{plain, fixed, sign, distance, signedText}
 use Rattle.text.proofs.Digits.{padded-length, places-least, places-whole}
 
 -- no longer than the digits of any power of ten above it
