@@ -6,7 +6,7 @@ use native.Mathlib.Omega.{arith}
 use native.Mathlib.Numerals.{add-one}
 use lib.Dec.{eqb}
 use lib.ListN.{length, length-drop, take, drop, getD}
-use lib.Seq.{drop-cons, drop-length, take-all}
+use lib.Seq.{drop-cons, drop-drop, drop-length, take-all}
 use borrow.Author.Tests.{eq-eqb, ne-eqb}
 use Rattle.laws.proofs.Tests.{split, cond-by}
 use Rattle.divide.specs.Divide.{span, onHead, parts}
@@ -51,6 +51,25 @@ parts-last sep [] h = refl
 parts-last sep (x ∷ xs) h =
     split (eqb x sep) (λ e. absurd (let g = rw e at h in omega arith))
     (λ e. let g = rw e at h in rw e (rw (parts-last sep xs (omega arith))))
+
+-- a text walked part by part: the part that begins at a ends at e
+module _ (sep : ℕ) (text : List ℕ) (a e : ℕ) (inside : a ≤ length text) (ends : e ≡ a + span sep (drop a text)) where
+  -- the part, and those after it
+  pub part-first : parts sep (drop a text) ≡ take (e - a) (drop a text) ∷ drop 1 (parts sep (drop a text))
+  part-first = let size : e - a ≡ span sep (drop a text) = omega arith in rw size (parts-first sep (drop a text))
+
+  -- none comes after the one that ends with the text
+  pub part-last : e ≡ length text → drop 1 (parts sep (drop a text)) ≡ []
+  part-last h =
+      let whole : span sep (drop a text) ≡ length (drop a text) = simp length-drop (omega arith) in
+      rw (parts-last sep (drop a text) whole)
+
+  -- those after another begin past its separator
+  pub part-more : e < length text → drop 1 (parts sep (drop a text)) ≡ parts sep (drop (e + 1) text)
+  part-more h =
+      let short : span sep (drop a text) < length (drop a text) = simp length-drop (omega arith) in
+      let past : a + suc (span sep (drop a text)) ≡ e + 1 = omega arith in
+      rw (parts-more sep (drop a text) short, drop-drop, past)
 
 -- a part that goes on to the end
 pub rest-from : (s : List ℕ) (i : ℕ) → take (length s - i) (drop i s) ≡ drop i s

@@ -1,11 +1,11 @@
 -- What a byte does, case by case. Assumes nothing.
 use Prim.Native.Nat.{ℕ, _≤_, _<_}
-use mathlib.Core.Path.{_≡_, _∙_}
+use mathlib.Core.Path.{_≡_}
 use mathlib.Core.Bool.{Bool, true, false, cond, _||_}
 use borrow.Author.Tests.{lt-ltb, le-ltb}
 use Rattle.queue.specs.declared.Queue.{Queue}
 use Rattle.queue.specs.declared.Ended.the-variants.{Nothing, Line}
-use Rattle.queue.specs.Queue.{Fed, lineLimit, endsLine, isMarked, longer, droppedOf, tooLongOf, addedOf, fedOf}
+use Rattle.queue.specs.Queue.{lineLimit, endsLine, isMarked, longer, droppedOf, tooLongOf, addedOf, fedOf}
 
 -- a byte that is no line end of its own, where it fits and where it does not
 module _ (q : Queue) (b : ℕ) (marked : Bool) where

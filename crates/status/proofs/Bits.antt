@@ -2,7 +2,7 @@
 use Prim.Native.Nat.{ℕ, zero, suc, _+_, _*_, _/_, _%_, _^_, _≤_, _<_, min, max}
 use native.Mathlib.Nat.{le-trans, mod-le, mul-le-mul-right, mul-assoc, one-mul, div-eq-of-lt, div-mul-le-self, div-self, div-div-eq-div-mul, lt-of-lt-of-le, pow-succ', pow-suc}
 use native.Mathlib.Omega.{arith}
-use mathlib.Core.Bool.{Bool, true, false, cond}
+use mathlib.Core.Bool.{true, false}
 use mathlib.Core.Path.{_≡_, refl, sym, ap, ap₂, _∙_}
 use lib.Arith.{bin-ind, digits-mod}
 use lib.Bits.{bitAnd, bitOr, and-step, or-step, and-shr, or-shr}

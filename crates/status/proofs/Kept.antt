@@ -1,8 +1,8 @@
 -- The registers and enables that a state may have stay such under every function of `status`. Assumes nothing.
-use Prim.Native.Nat.{ℕ, _%_, _^_, _≤_, min}
+use Prim.Native.Nat.{ℕ, _%_, _^_, _≤_}
 use native.Mathlib.Nat.{le-of-eq}
 use native.Mathlib.Omega.{arith}
-use mathlib.Core.Bool.{Bool, true, false, not, and-eq-true-iff}
+use mathlib.Core.Bool.{true, not, and-eq-true-iff}
 use mathlib.Core.Path.{_≡_, refl}
 use lib.Dec.{eqb}
 use lib.Bits.{bitAnd, bitOr}
