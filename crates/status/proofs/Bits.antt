@@ -78,19 +78,15 @@ bits-apart x m h = none-set (bitAnd x m) (λ i. bit-and x m i ∙ h i)
 
 -- the tests of two numbers and of a mask
 pub met-none : (x m : ℕ) → meets x m ≡ false → bitAnd x m ≡ 0
-unfolding meets
 met-none x m h = eqb-true (bitAnd x m) 0 (not-false (eqb (bitAnd x m) 0) h)
 
 pub meets-none : (x m : ℕ) → bitAnd x m ≡ 0 → meets x m ≡ false
-unfolding meets
 meets-none x m h = rw (eq-eqb (bitAnd x m) 0 h)
 
 pub only-le : (mask x : ℕ) → only mask x ≡ true → (i : ℕ) → bitOf x i ≤ bitOf mask i
-unfolding only
 only-le mask x h i = omega (arith, bit-and x mask i, ap (λ (n : ℕ). bitOf n i) (eqb-true (bitAnd x mask) x h))
 
 le-only : (mask x : ℕ) → ((i : ℕ) → bitOf x i ≤ bitOf mask i) → only mask x ≡ true
-unfolding only
 le-only mask x h = eq-eqb (bitAnd x mask) x (same-bits (bitAnd x mask) x (λ i. omega (arith, bit-and x mask i, h i)))
 
 -- the weight of bit i has that bit and no other

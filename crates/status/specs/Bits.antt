@@ -18,11 +18,11 @@ unfoldable pub withBit : ℕ → ℕ → ℕ → ℕ
 withBit x i value = cond (ltb i 8) (cond (eqb value 0) (withoutBit x i) (bitOr x (2 ^ i))) x
 
 -- some bit is set in both
-unfoldable pub meets : ℕ → ℕ → Bool
+abbrev pub meets : ℕ → ℕ → Bool
 meets x y = not (eqb (bitAnd x y) 0)
 
 -- no bit of x is set but those of the mask
-unfoldable pub only : ℕ → ℕ → Bool
+abbrev pub only : ℕ → ℕ → Bool
 only mask x = eqb (bitAnd x mask) x
 
 -- bit i where the test holds
