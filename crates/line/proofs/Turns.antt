@@ -80,7 +80,8 @@ module _ {text one₀ two₀ reply₀ : List ℕ} {p₀ : Progress} {one two rep
       Runs (runAll (length reply₀) (parts semicolon text) (lineAt p₀ one₀ two₀ reply₀)) q one′ two′ reply′ reply₀
   unfolding runAll
   ended d l =
-      as-ran _ q one′ two′ reply′ reply₀ (turned ∙ rw (d, part-last semicolon text a e (v .inside) at-e l)) in-room gone-on
+      let none = part-last semicolon text a e (v .inside) at-e l in
+      as-ran _ q one′ two′ reply′ reply₀ (turned ∙ rw (d, none)) in-room gone-on
 
   pub again : q .dropped ≡ false → e < length text → length reply′ ≡ length reply → length one′ ≡ length one → length two′ ≡ length two →
       q .count ≡ p .count + 1 → OnWay text one₀ two₀ reply₀ p₀ one′ two′ reply′ q (e + 1)

@@ -78,9 +78,11 @@ bits-apart x m h = none-set (bitAnd x m) (λ i. bit-and x m i ∙ h i)
 
 -- the tests of two numbers and of a mask
 pub met-none : (x m : ℕ) → meets x m ≡ false → bitAnd x m ≡ 0
+unfolding meets
 met-none x m h = eqb-true (bitAnd x m) 0 (not-false (eqb (bitAnd x m) 0) h)
 
 pub meets-none : (x m : ℕ) → bitAnd x m ≡ 0 → meets x m ≡ false
+unfolding meets
 meets-none x m h = rw (eq-eqb (bitAnd x m) 0 h)
 
 pub only-le : (mask x : ℕ) → only mask x ≡ true → (i : ℕ) → bitOf x i ≤ bitOf mask i

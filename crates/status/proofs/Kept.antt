@@ -89,6 +89,7 @@ module _ (r : Registers) (e : Enables) (h : keepsOf r e ≡ true) where
   known = kept r e h
 
   register-free : (which : Register) → bitAnd (registerOf r which) (unusedOf which) ≡ 0
+  unfolding registerOf
   register-free Standard = known .standard-free
   register-free Service = refl
   register-free Lia = known .lia-free
@@ -103,6 +104,7 @@ module _ (r : Registers) (e : Enables) (h : keepsOf r e ≡ true) where
 
   -- *ESR?, LIAS?, ERRS?, and with a bit
   pub cleared-keeps : (which : Register) → keepsOf (clearedOf r which) e ≡ true
+  unfolding clearedOf
   cleared-keeps which = keeps-kept (withRegister r which 0) e (register-kept which 0 refl)
 
   pub bit-cleared-keeps : (which : Register) (i : ℕ) → keepsOf (bitCleared r which i) e ≡ true
@@ -153,6 +155,7 @@ module _ (r : Registers) (e : Enables) (h : keepsOf r e ≡ true) where
   enable-kept Errors x = service-kept (withEnableByte e Errors x) (known .service-free)
 
   pub enable-keeps : (which : Register) (value : ℕ) → keepsOf r (withEnable e which value) ≡ true
+  unfolding withEnable
   enable-keeps which value = keeps-kept r _ (enable-kept which (value % 256))
 
   pub enable-bit-keeps : (which : Register) (i value : ℕ) → keepsOf r (withEnableBit e which i value) ≡ true

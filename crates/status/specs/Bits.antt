@@ -18,7 +18,7 @@ unfoldable pub withBit : ℕ → ℕ → ℕ → ℕ
 withBit x i value = cond (ltb i 8) (cond (eqb value 0) (withoutBit x i) (bitOr x (2 ^ i))) x
 
 -- some bit is set in both
-abbrev pub meets : ℕ → ℕ → Bool
+unfoldable pub meets : ℕ → ℕ → Bool
 meets x y = not (eqb (bitAnd x y) 0)
 
 -- no bit of x is set but those of the mask

@@ -21,7 +21,7 @@ abbrev pub startEnables : Enables
 startEnables = record { standard = 0; service = 0; lia = 0; errors = 0 }
 
 -- an event register; the service register is none
-abbrev pub registerOf : Registers → Register → ℕ
+unfoldable pub registerOf : Registers → Register → ℕ
 registerOf r Standard = r .standard
 registerOf r Service = 0
 registerOf r Lia = r .lia
@@ -34,7 +34,7 @@ withRegister r Lia x = record { standard = r .standard; lia = x; errors = r .err
 withRegister r Errors x = record { standard = r .standard; lia = r .lia; errors = x }
 
 -- "*ESR?, LIAS? and ERRS? reply and clear"
-abbrev pub clearedOf : Registers → Register → Registers
+unfoldable pub clearedOf : Registers → Register → Registers
 clearedOf r which = withRegister r which 0
 
 -- "with an argument i (0-7) only bit i"
@@ -67,7 +67,7 @@ abbrev pub withRaised : Registers → ℕ → ℕ → Registers
 withRaised r lia errors = record { standard = r .standard; lia = bitOr (r .lia) lia; errors = bitOr (r .errors) errors }
 
 -- *ESE, *SRE, LIAE and ERRE
-abbrev pub enableOf : Enables → Register → ℕ
+unfoldable pub enableOf : Enables → Register → ℕ
 enableOf e Standard = e .standard
 enableOf e Service = e .service
 enableOf e Lia = e .lia
@@ -81,7 +81,7 @@ withEnableByte e Lia x = record { standard = e .standard; service = e .service; 
 withEnableByte e Errors x = record { standard = e .standard; service = e .service; lia = e .lia; errors = x }
 
 -- "*ESE, *SRE, LIAE and ERRE take one value 0-255"
-abbrev pub withEnable : Enables → Register → ℕ → Enables
+unfoldable pub withEnable : Enables → Register → ℕ → Enables
 withEnable e which value = withEnableByte e which (value % 256)
 
 -- "or bit 0-7 and 0 or 1"

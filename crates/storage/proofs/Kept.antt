@@ -6,7 +6,7 @@ use lib.Dec.{leb, eqb}
 use borrow.Author.Tests.{ltb-true, leb-true, leb-false, eqb-true, lt-ltb, le-leb, lt-leb, eq-eqb, not-true}
 use Rattle.laws.proofs.Tests.{split, and-first, and-second}
 use Rattle.storage.specs.declared.Storage.{Storage}
-use Rattle.storage.specs.Storage.{isReset, isDone, fullInOneShot, doneKept, resetKept, keepsOf}
+use Rattle.storage.specs.Storage.{isReset, isDone, fullInOneShot, slotsKept, doneKept, resetKept, keepsOf}
 
 pub record Kept (s : Storage) (capacity end : ℕ) : Type 0 where
   pub held : s .held ≤ capacity
@@ -23,7 +23,7 @@ done-facts false d z h = (not-true d h, λ e. absurd (false≢true (sym (not-tru
 
 module _ (s : Storage) (capacity end : ℕ) where
   pub facts : keepsOf s capacity end ≡ true → Kept s capacity end
-  unfolding keepsOf doneKept resetKept
+  unfolding keepsOf slotsKept doneKept resetKept
   facts k =
       let parts = and-eq-true-iff _ _ .0 k in
       let first = and-eq-true-iff _ _ .0 (parts .0) in
@@ -40,7 +40,7 @@ module _ (s : Storage) (capacity end : ℕ) where
       }
 
   pub test : Kept s capacity end → keepsOf s capacity end ≡ true
-  unfolding keepsOf doneKept resetKept
+  unfolding keepsOf slotsKept doneKept resetKept
   test k =
       let level : leb capacity (s .held) || eqb (s .next) (s .held) ≡ true =
       split (leb capacity (s .held)) (λ f. rw f) (λ f. rw (f, eq-eqb _ _ (k .level (leb-false _ _ f)))) in

@@ -12,7 +12,7 @@ use Rattle.storage.specs.declared.Phase.{Phase}
 use Rattle.storage.specs.declared.Phase.the-variants.{Reset, Running, Paused, Done}
 use Rattle.storage.specs.declared.Storage.{Storage}
 use Rattle.storage.specs.declared.Sampling.{Sampling}
-use Rattle.storage.specs.Storage.{oneShot, triggerStarts, isReset, isRunning, isPaused, isDone, inPhase, startedOf, pausedOf, emptiedStorage, nextSlot, fullInOneShot, storedOf, storing, tickStores, tickedOf, readiedOf, triggerStores, triggeredOf, keepsOf}
+use Rattle.storage.specs.Storage.{oneShot, triggerStarts, isReset, isRunning, isPaused, isDone, inPhase, startedOf, pausedOf, emptiedStorage, nextSlot, heldAfter, fullInOneShot, storedOf, storing, tickStores, tickedOf, readiedOf, triggerStores, triggeredOf, keepsOf}
 use Rattle.storage.proofs.Kept.{facts, test}
 
 -- ---- what a state's storage has
@@ -47,6 +47,7 @@ running-only Done s e = absurd (false≢true e)
 -- ---- REST, STRT and PAUS
 
 not-full : (capacity end : ℕ) → 1 ≤ capacity → fullInOneShot 0 capacity end ≡ false
+unfolding fullInOneShot
 not-full capacity end h = rw (lt-leb capacity 0 h) (and-false (eqb end oneShot))
 
 pub emptied-keeps : (capacity end : ℕ) → 1 ≤ capacity → keepsOf emptiedStorage capacity end ≡ true
@@ -131,11 +132,13 @@ unfolding nextSlot
 next-round slot capacity h = rw (le-ltb (slot + 1) capacity h)
 
 full-facts : (held capacity end : ℕ) → fullInOneShot held capacity end ≡ true → (eqb end oneShot ≡ true) × (capacity ≤ held)
+unfolding fullInOneShot
 full-facts held capacity end e =
     let both = and-eq-true-iff (eqb end oneShot) (leb capacity held) .0 e in
     (both .0, leb-true capacity held (both .1))
 
 full-test : (held capacity end : ℕ) → eqb end oneShot ≡ true → capacity ≤ held → fullInOneShot held capacity end ≡ true
+unfolding fullInOneShot
 full-test held capacity end e h = rw (e, le-leb capacity held h)
 
 -- the phase after a point, done or as it was
@@ -158,7 +161,7 @@ room s capacity end r k o =
 
 pub stored-keeps : (s : Storage) (capacity end : ℕ) → isRunning s ≡ true → keepsOf s capacity end ≡ true
     → keepsOf (storedOf s capacity end) capacity end ≡ true
-unfolding storedOf isReset isDone
+unfolding storedOf heldAfter isReset isDone
 stored-keeps s capacity end r k =
     let f = facts s capacity end k in
     let full = fullInOneShot (min (s .held + 1) capacity) capacity end in
@@ -224,4 +227,5 @@ paused-same s = phase-same (isRunning s) Paused s
 pub readied-same : (s : Storage) (by : Sampling) → Same (readiedOf s by) s
 unfolding readiedOf
 readied-same s by =
-    cond-by (λ r. Same r s) (eqb (by .start) triggerStarts) (λ e. started-same s) (λ e. record { held = refl; next = refl })
+    cond-by (λ r. Same r s) (eqb (by .start) triggerStarts) (λ e. started-same s)
+    (λ e. record { held = refl; next = refl })

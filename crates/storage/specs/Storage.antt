@@ -74,14 +74,14 @@ unfoldable pub nextSlot : ℕ → ℕ → ℕ
 nextSlot slot capacity = cond (ltb (slot + 1) capacity) (slot + 1) 0
 
 -- one point more is held, up to the capacity
-abbrev pub heldAfter : ℕ → ℕ → ℕ
+unfoldable pub heldAfter : ℕ → ℕ → ℕ
 heldAfter held capacity = min (held + 1) capacity
 
 abbrev pub isFull : ℕ → ℕ → Bool
 isFull held capacity = leb capacity held
 
 -- "full in one shot"
-abbrev pub fullInOneShot : ℕ → ℕ → ℕ → Bool
+unfoldable pub fullInOneShot : ℕ → ℕ → ℕ → Bool
 fullInOneShot held capacity end = eqb end oneShot && isFull held capacity
 
 -- "In one shot (SEND 0) the point that fills it makes it done; in loop (SEND 1) the oldest is overwritten."
@@ -128,16 +128,16 @@ triggeredOf s capacity by =
 
 -- "Point n since the last emptying, from 0, lies in slot n mod capacity. .. bin 0 is the oldest.": as many slots before the next one as points are held,
 -- counted round, so bin j lies in slot (oldest + j) mod capacity
-abbrev pub oldestOf : Storage → ℕ → ℕ
+unfoldable pub oldestOf : Storage → ℕ → ℕ
 oldestOf s capacity = s .next + (capacity - s .held)
 
 -- "j+k above SPTS is refused"
-abbrev pub holdsOf : Storage → ℕ → ℕ → Bool
+unfoldable pub holdsOf : Storage → ℕ → ℕ → Bool
 holdsOf s bin count = leb (bin + count) (s .held)
 
 -- "Point n since the last emptying, from 0, lies in slot n mod capacity.": at most the capacity is held, the next slot is one of the capacity's, and it is
 -- the number held while storage is not full
-abbrev pub slotsKept : Storage → ℕ → Bool
+unfoldable pub slotsKept : Storage → ℕ → Bool
 slotsKept s capacity = leb (s .held) capacity && ltb (s .next) capacity && (isFull (s .held) capacity || eqb (s .next) (s .held))
 
 -- "Storage is done exactly when it is full in one shot"; the next slot is then 0
