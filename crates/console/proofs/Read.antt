@@ -1,10 +1,9 @@
 -- A line, a place and a refusal that can be told are read off the number. Assumes nothing.
-use Prim.Native.Nat.{ℕ, suc, _+_, _*_, _^_, _≤_, _<_, min}
+use Prim.Native.Nat.{ℕ, _≤_}
 use mathlib.Core.Path.{_≡_, refl, sym, ap, _∙_}
-use mathlib.Core.Logic.{_↔_}
 use mathlib.Core.List.{List, [], _∷_}
 use native.Mathlib.Omega.{arith}
-use lib.ListN.{length, getD}
+use lib.ListN.{getD}
 use Rattle.refusal.specs.Meaning.{meaningOf}
 use Rattle.refusal.specs.declared.Refusal.{Refusal}
 use Rattle.refusal.specs.declared.Refusal.the-variants.{Malformed, OutOfRange, NotAllowed, NoRoom, LongLine, BadEvent, NoReset, LongScriptLine, BadTraces, BadStart, BadState}
@@ -54,19 +53,16 @@ same-refusal r s e = sym (by-order r) ∙ ap (λ (n : ℕ). getD in-order n BadS
 
 module _ (line place number : ℕ) (h : line ≤ lineMost) (g : place ≤ placeMost) (f : number ≤ 11) where
   line-read : lineRead (packed line place number) ≡ line
-  unfolding packed
   line-read = omega arith
 
   place-read : placeRead (packed line place number) ≡ place
-  unfolding packed
   place-read = omega arith
 
   refusal-read : refusalRead (packed line place number) ≡ number
-  unfolding packed
   refusal-read = omega arith
 
 zero-fine : (v : Verdict) → numberOf v ≡ 0 → v ≡ Fine
-unfolding numberOf packed
+unfolding numberOf
 zero-fine Fine e = refl
 zero-fine (No line place r) e = absurd (omega (arith, numbered r .0))
 

@@ -14,7 +14,7 @@ use Rattle.number.specs.declared.Range.{Range}
 use Rattle.number.specs.declared.Quantity.{Quantity}
 use Rattle.number.specs.declared.Argument.the-variants.{Value}
 use Rattle.number.specs.declared.Reading.the-variants.{Number, NotNumber}
-use Rattle.number.proofs.Exact.{and-first, and-second}
+use Rattle.laws.proofs.Tests.{and-first, and-second}
 use Rattle.text.specs.Text.{distance}
 use Rattle.text.proofs.Again.{read-again}
 use Rattle.settings.specs.Table.{table, rowOf, phas, freq, turnedOf, phase}

@@ -10,7 +10,7 @@ use borrow.Author.Tests.{le-leb, leb-true, lt-ltb, eq-eqb, ne-eqb}
 use Rattle.divide.specs.Divide.{parts, onHead}
 use Rattle.clean.specs.Clean.{cleaned}
 use Rattle.number.specs.Number.{minus, point, begins}
-use Rattle.number.proofs.Exact.{and-first, and-second}
+use Rattle.laws.proofs.Tests.{and-first, and-second}
 use Rattle.text.specs.Text.{padded, places, plain, fixed, sign, distance, signedText}
 use Rattle.text.proofs.Digits.{padded-length, places-some}
 use Rattle.command.specs.Arguments.{comma, arguments}

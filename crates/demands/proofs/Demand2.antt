@@ -7,7 +7,7 @@ use native.Mathlib.Omega.{arith}
 use lib.Dec.{leb}
 use lib.ListN.{length, length-append}
 use borrow.Author.Tests.{le-leb}
-use Rattle.number.proofs.Exact.{and-first}
+use Rattle.laws.proofs.Tests.{and-first}
 use Rattle.name.specs.Names.{meaningOf}
 use Rattle.name.specs.declared.Register.{Register}
 use Rattle.name.specs.declared.Meaning.the-variants.{Setting, Channel, ChannelPair, Enable}

@@ -6,7 +6,7 @@ use mathlib.Core.List.{List, [], _∷_, List·Memᴰ, List·Memᴰ·head, List·
 use native.Mathlib.Omega.{arith}
 use lib.Dec.{leb, ltb, eqb}
 use borrow.Author.Tests.{ltb-true, leb-true, eqb-true, eqb-false}
-use Rattle.number.proofs.Exact.{and-first, and-second}
+use Rattle.laws.proofs.Tests.{and-first, and-second}
 use Rattle.name.specs.Names.{Named, commands, meaningIn, meaningOf}
 use Rattle.name.specs.declared.Meaning.{Meaning}
 use Rattle.name.specs.declared.Meaning.the-variants.{Setting, Channel, ChannelPair, Enable, Status, Identity, Points, Trace, Act, Unknown}

@@ -8,7 +8,7 @@ use lib.ListN.{length, length-set, getD}
 use lib.ListN as ListN
 use lib.Seq.{getD-set-same, getD-set-other}
 use borrow.Author.Tests.{eqb-true, eqb-false, eq-eqb, lt-ltb}
-use Rattle.number.proofs.Exact.{and-first}
+use Rattle.laws.proofs.Tests.{and-first}
 use Rattle.settings.specs.Table.{entries, fmod, freq, harm, oflt, behind, valueOf, withValue}
 use Rattle.settings.specs.Frequency.{inForce, detectionOf, above200, crossingOf}
 use Rattle.settings.specs.Allowed.{keeps, keepsAll, allowedOf}

@@ -7,7 +7,7 @@ use native.Mathlib.Omega.{arith}
 use lib.Dec.{leb, ltb, eqb}
 use lib.ListN.{length}
 use borrow.Author.Tests.{ltb-true, leb-true, eqb-true, ne-eqb}
-use Rattle.number.proofs.Exact.{and-first, and-second}
+use Rattle.laws.proofs.Tests.{and-first, and-second}
 use Rattle.name.specs.Names.{Named, commands, sameBytes, meaningIn, meaningOf}
 use Rattle.name.specs.declared.Register.{Register}
 use Rattle.name.specs.declared.Meaning.{Meaning}

@@ -9,7 +9,7 @@ use lib.Dec.{leb, eqb}
 use lib.ListN.{set as set-at}
 use lib.Seq.{set-getD, getD-set-other}
 use borrow.Author.Tests.{eqb-true, eqb-false, eq-eqb, ne-eqb}
-use Rattle.number.proofs.Exact.{and-first, and-second}
+use Rattle.laws.proofs.Tests.{and-first, and-second}
 use Rattle.name.specs.declared.Register.{Register}
 use Rattle.name.specs.declared.Register.the-variants.{Standard, Service, Lia, Errors}
 use Rattle.settings.specs.Table.{fmod, freq, harm, oflt, send, behind, valueOf, withValue}

@@ -1,13 +1,13 @@
 -- A line on its way: where its commands lie, and what a turn of the loop does. Assumes nothing.
-use Prim.Native.Nat.{ℕ, suc, _+_, _-_, _<_, _≤_}
+use Prim.Native.Nat.{ℕ, _+_, _-_, _<_, _≤_}
 use mathlib.Core.Path.{_≡_, refl, sym, ap, _∙_}
 use mathlib.Core.Bool.{true, false, cond}
 use mathlib.Core.List.{List, _++_}
 use native.Mathlib.Omega.{arith}
-use lib.ListN.{length, take, drop, length-drop, take-append-drop}
+use lib.ListN.{length, take, drop, take-append-drop}
 use lib.Seq.{drop-drop, length-take-le}
 use Rattle.divide.specs.Divide.{span, parts}
-use Rattle.divide.proofs.Span.{parts-first, parts-more, parts-last}
+use Rattle.divide.proofs.Span.{part-first, part-last, part-more}
 use Rattle.reply.specs.Reply.{over}
 use Rattle.reply.proofs.Over.{over-take, over-drop}
 use Rattle.line.specs.declared.Progress.{Progress}
@@ -64,10 +64,11 @@ module _ {text one₀ two₀ reply₀ : List ℕ} {p₀ : Progress} {one two rep
       ≡ cond (q .dropped) (lineAt q one′ two′ reply′) (runAll (length reply₀) (drop 1 (parts semicolon (drop a text))) (lineAt q one′ two′ reply′))
   unfolding runAll
   turned =
-      let k : e - a ≡ span semicolon (drop a text) = omega arith in
-      let s : lineAt q one′ two′ reply′ ≡ stepOf (length reply₀) (take (span semicolon (drop a text)) (drop a text)) (lineAt p one two reply) =
-      line-at _ q one′ two′ reply′ reply st ∙ rw (v .long, k) in
-      v .same ∙ ap (λ cs. runAll (length reply₀) cs (lineAt p one two reply)) (parts-first semicolon (drop a text)) ∙ rw (← s)
+      let s : lineAt q one′ two′ reply′ ≡ stepOf (length reply₀) (take (e - a) (drop a text)) (lineAt p one two reply) =
+      line-at _ q one′ two′ reply′ reply st ∙ rw (v .long) in
+      v .same
+      ∙ ap (λ cs. runAll (length reply₀) cs (lineAt p one two reply)) (part-first semicolon text a e (v .inside) at-e)
+      ∙ rw (← s)
 
   gone-on : drop (q .at) reply′ ≡ drop (q .at) reply₀
   gone-on = past-written _ q one′ two′ reply′ reply st ∙ rest-on reply reply₀ (p .at) (q .at) on (v .rest)
@@ -79,22 +80,16 @@ module _ {text one₀ two₀ reply₀ : List ℕ} {p₀ : Progress} {one two rep
       Runs (runAll (length reply₀) (parts semicolon text) (lineAt p₀ one₀ two₀ reply₀)) q one′ two′ reply′ reply₀
   unfolding runAll
   ended d l =
-      let i = v .inside in
-      let h : span semicolon (drop a text) ≡ length (drop a text) = simp length-drop (omega arith) in
-      as-ran _ q one′ two′ reply′ reply₀ (turned ∙ rw (d, parts-last semicolon (drop a text) h)) in-room gone-on
+      let none = part-last semicolon text a e (v .inside) at-e l in
+      as-ran _ q one′ two′ reply′ reply₀ (turned ∙ rw (d, none)) in-room gone-on
 
   pub again : q .dropped ≡ false → e < length text → length reply′ ≡ length reply → length one′ ≡ length one → length two′ ≡ length two →
       q .count ≡ p .count + 1 → OnWay text one₀ two₀ reply₀ p₀ one′ two′ reply′ q (e + 1)
   again d l x y z n =
-      let i = v .inside in
       let g = v .counted in
-      let h : span semicolon (drop a text) < length (drop a text) = simp length-drop (omega arith) in
-      let j : a + suc (span semicolon (drop a text)) ≡ e + 1 = omega arith in
-      let m : drop (suc (span semicolon (drop a text))) (drop a text) ≡ drop (e + 1) text =
-      drop-drop (suc (span semicolon (drop a text))) a text ∙ ap (λ k. drop k text) j in
       record {
         inside = omega arith;
-        same = turned ∙ rw (d, parts-more semicolon (drop a text) h, m);
+        same = turned ∙ rw (d, part-more semicolon text a e (v .inside) at-e l);
         rest = gone-on;
         fits = in-room;
         long = x ∙ v .long;

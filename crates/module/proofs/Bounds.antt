@@ -6,7 +6,7 @@ use native.Mathlib.Omega.{arith}
 use native.Mathlib.Nat.{mod-eq-of-lt}
 use lib.Dec.{leb, eqb}
 use borrow.Author.Tests.{leb-true}
-use Rattle.number.proofs.Exact.{and-second}
+use Rattle.laws.proofs.Tests.{and-second}
 use Rattle.module.specs.Start.{unitKnown, tracesFit}
 
 -- a known port and a capacity are small

@@ -1,40 +1,29 @@
 -- Taking is exact: what is kept of a number is enough for every range and every step. Assumes nothing.
 use Prim.Native.Nat.{ℕ, zero, suc, _+_, _-_, _*_, _/_, _%_, _<_, _≤_}
-use mathlib.Core.Path.{_≡_, refl, sym, _∙_}
-use mathlib.Core.Bool.{Bool, true, false, true≢false, cond, not, _&&_, _||_, and-false}
+use mathlib.Core.Path.{_≡_, sym, _∙_}
+use mathlib.Core.Bool.{Bool, true, false, cond, and-false}
 use native.Mathlib.Omega.{arith}
 use native.Mathlib.Nat.{one-le-pow, mod-lt, add-zero, div-add-mod', mul-zero, mul-comm, mul-assoc, add-mul, one-mul, mul-le-mul-right, lt-of-mul-lt-mul-right, div-div-eq-div-mul, min-eq-left, min-eq-right}
 use lib.Dec.{leb, ltb, eqb}
 use lib.Arith.{mod-mul}
-use borrow.Author.Tests.{lt-leb, leb-true, leb-false, le-ltb, ltb-true, ltb-false, eqb-true, eqb-false}
+use borrow.Author.Tests.{lt-leb, le-leb, leb-true, leb-false, le-ltb, ltb-true, ltb-false, eqb-true, eqb-false}
+use Rattle.laws.proofs.Tests.{split, cond-by, and-second}
 use Rattle.number.specs.Value.{Exact, exactOf, inRange, rounded, isWhole, argumentOf}
 use Rattle.number.specs.Parts.{cap, quantityOf, fitsRange, roundedTo, placedIn, valueIn, takenOf}
 use Rattle.number.specs.Exact.{Small, TakenExact, UnderSome}
 use Rattle.number.proofs.Rounding.{up-le, down-le}
 use Rattle.number.specs.declared.Range.{Range}
 use Rattle.number.specs.declared.Quantity.{Quantity}
-use Rattle.number.specs.declared.Argument.the-variants.{Value, Refused}
-
-pub and-first : (a b : Bool) → (a && b) ≡ true → a ≡ true
-and-first true b h = refl
-and-first false b h = h
-
-pub and-second : (a b : Bool) → (a && b) ≡ true → b ≡ true
-and-second true b h = h
-and-second false b h = absurd (true≢false (sym h))
+use Rattle.number.specs.declared.Argument.the-variants.{Value}
 
 one-at-most : (e : Bool) → cond e 1 0 ≤ 1
-one-at-most true = omega arith
-one-at-most false = omega arith
+one-at-most e = cond-by (λ n. n ≤ 1) e (λ _. omega arith) (λ _. omega arith)
 
 -- two tests that hold of the same numbers
 pub same-test : (a b c d : ℕ) → (a ≤ b → c ≤ d) → (c ≤ d → a ≤ b) → leb a b ≡ leb c d
-same-test a b c d f g = by (leb a b) (leb c d) refl refl where
-  by : (s t : Bool) → leb a b ≡ s → leb c d ≡ t → s ≡ t
-  by true true p q = refl
-  by false false p q = refl
-  by true false p q = absurd (omega (arith, f (leb-true a b p), leb-false c d q))
-  by false true p q = absurd (omega (arith, g (leb-true c d q), leb-false a b p))
+same-test a b c d f g =
+    split (leb c d) (λ q. rw q (le-leb a b (g (leb-true c d q))))
+    (λ q. rw q (split (leb a b) (λ p. absurd (omega (arith, f (leb-true a b p), leb-false c d q))) (λ p. p)))
 
 -- a + x / d ≤ b and b ≤ a + x / d, for a part x / d below one
 module _ (a b d x : ℕ) (h : x < d) where
@@ -44,38 +33,33 @@ module _ (a b d x : ℕ) (h : x < d) where
       (λ p. let l : b * d < (a + 1) * d = rw (add-mul a 1 d, one-mul d) (omega arith) in omega (arith, lt-of-mul-lt-mul-right d l))
       (λ p. omega (arith, mul-le-mul-right d p))
 
-  below-by : (e : Bool) → eqb x 0 ≡ e → leb (a * d + x) (b * d) ≡ leb (a + 1) (b + cond e 1 0)
-  below-by true z =
-      let o : x ≡ 0 = eqb-true x 0 z in
-      same-test (a * d + x) (b * d) (a + 1) (b + 1)
-      (λ p. let l : a * d < (b + 1) * d = rw (add-mul b 1 d, one-mul d) (omega arith) in omega (arith, lt-of-mul-lt-mul-right d l))
-      (λ p. let l : a ≤ b = omega arith in omega (arith, mul-le-mul-right d l))
-  below-by false z =
-      let o : 0 < x = omega (arith, eqb-false x 0 z) in
-      same-test (a * d + x) (b * d) (a + 1) (b + 0)
-      (λ p. let l : a * d < b * d = omega arith in omega (arith, lt-of-mul-lt-mul-right d l))
-      (λ p. let l : a + 1 ≤ b = omega arith in omega (arith, mul-le-mul-right d l, add-mul a 1 d, one-mul d))
-
   part-below : leb (a * d + x) (b * d) ≡ leb (a + 1) (b + cond (eqb x 0) 1 0)
-  part-below = below-by (eqb x 0) refl
+  part-below =
+      cond-by (λ n. leb (a * d + x) (b * d) ≡ leb (a + 1) (b + n)) (eqb x 0)
+      (λ z. let o : x ≡ 0 = eqb-true x 0 z in
+        same-test (a * d + x) (b * d) (a + 1) (b + 1)
+        (λ p. let l : a * d < (b + 1) * d = rw (add-mul b 1 d, one-mul d) (omega arith) in
+          omega (arith, lt-of-mul-lt-mul-right d l))
+        (λ p. let l : a ≤ b = omega arith in omega (arith, mul-le-mul-right d l)))
+      (λ z. let o : 0 < x = omega (arith, eqb-false x 0 z) in
+        same-test (a * d + x) (b * d) (a + 1) (b + 0)
+        (λ p. let l : a * d < b * d = omega arith in omega (arith, lt-of-mul-lt-mul-right d l))
+        (λ p. let l : a + 1 ≤ b = omega arith in omega (arith, mul-le-mul-right d l, add-mul a 1 d, one-mul d)))
 
   twice : (k : ℕ) → (2 * a + k) * d ≡ 2 * (a * d) + k * d
   twice k = add-mul (2 * a) k d ∙ rw (mul-assoc 2 a d)
 
-  half-by : (e : Bool) → leb d (2 * x) ≡ e → leb (b * d) (2 * (a * d + x)) ≡ leb b (2 * a + cond e 1 0)
-  half-by true z =
-      let o : d ≤ 2 * x = leb-true d (2 * x) z in
-      same-test (b * d) (2 * (a * d + x)) b (2 * a + 1)
-      (λ p. let l : b * d < (2 * a + 2) * d = omega (arith, twice 2) in omega (arith, lt-of-mul-lt-mul-right d l))
-      (λ p. omega (arith, twice 1, mul-le-mul-right d p))
-  half-by false z =
-      let o : 2 * x < d = leb-false d (2 * x) z in
-      same-test (b * d) (2 * (a * d + x)) b (2 * a + 0)
-      (λ p. let l : b * d < (2 * a + 1) * d = omega (arith, twice 1) in omega (arith, lt-of-mul-lt-mul-right d l))
-      (λ p. omega (arith, twice 0, mul-le-mul-right d p))
-
   part-half : leb (b * d) (2 * (a * d + x)) ≡ leb b (2 * a + cond (leb d (2 * x)) 1 0)
-  part-half = half-by (leb d (2 * x)) refl
+  part-half =
+      cond-by (λ n. leb (b * d) (2 * (a * d + x)) ≡ leb b (2 * a + n)) (leb d (2 * x))
+      (λ z. let o : d ≤ 2 * x = leb-true d (2 * x) z in
+        same-test (b * d) (2 * (a * d + x)) b (2 * a + 1)
+        (λ p. let l : b * d < (2 * a + 2) * d = omega (arith, twice 2) in omega (arith, lt-of-mul-lt-mul-right d l))
+        (λ p. omega (arith, twice 1, mul-le-mul-right d p)))
+      (λ z. let o : 2 * x < d = leb-false d (2 * x) z in
+        same-test (b * d) (2 * (a * d + x)) b (2 * a + 0)
+        (λ p. let l : b * d < (2 * a + 1) * d = omega (arith, twice 1) in omega (arith, lt-of-mul-lt-mul-right d l))
+        (λ p. omega (arith, twice 0, mul-le-mul-right d p)))
 
 -- a number as it is kept, with no cap
 abbrev kept : Exact → Quantity
@@ -91,28 +75,22 @@ module _ (v : Exact) (pos : 0 < v .under) where
 
   in-range : (r : Range) → inRange r v ≡ fitsRange r (kept v)
   unfolding inRange fitsRange
-  in-range r = by (v .negative) where
-    by : (n : Bool) →
-        cond n
-        (leb (r .low * v .under + v .over) (r .bias * v .under) && leb (r .bias * v .under) (r .high * v .under + v .over))
-        (leb (r .low * v .under) (r .bias * v .under + v .over) && leb (r .bias * v .under + v .over) (r .high * v .under))
-        ≡
-        cond n
-        (leb (r .low + v .over / v .under + 1) (r .bias + cond (isWhole v) 1 0) && leb (r .bias) (r .high + v .over / v .under))
-        (leb (r .low) (r .bias + v .over / v .under) && leb (r .bias + v .over / v .under + 1) (r .high + cond (isWhole v) 1 0))
-    by true =
-        rw (
-          sum (r .low),
-          sum (r .high),
-          part-below (r .low + v .over / v .under) (r .bias) (v .under) (v .over % v .under) rest,
-          part-above (r .high + v .over / v .under) (r .bias) (v .under) (v .over % v .under) rest,
-        )
-    by false =
-        rw (
-          sum (r .bias),
-          part-above (r .bias + v .over / v .under) (r .low) (v .under) (v .over % v .under) rest,
-          part-below (r .bias + v .over / v .under) (r .high) (v .under) (v .over % v .under) rest,
-        )
+  in-range r =
+      let n = v .over / v .under in
+      split (v .negative)
+      (λ e. rw (
+        e,
+        sum (r .low),
+        sum (r .high),
+        part-below (r .low + n) (r .bias) (v .under) (v .over % v .under) rest,
+        part-above (r .high + n) (r .bias) (v .under) (v .over % v .under) rest,
+      ))
+      (λ e. rw (
+        e,
+        sum (r .bias),
+        part-above (r .bias + n) (r .low) (v .under) (v .over % v .under) rest,
+        part-below (r .bias + n) (r .high) (v .under) (v .over % v .under) rest,
+      ))
 
   rounds : (step : ℕ) → rounded step v ≡ roundedTo step (kept v)
   unfolding roundedTo
@@ -132,36 +110,28 @@ module _ (v : Exact) (pos : 0 < v .under) where
   -- a whole part past the cap lies in no range
   past : (r : Range) → Small r → cap ≤ v .over / v .under → fitsRange r (kept v) ≡ false
   unfolding fitsRange
-  past r small h = by (v .negative) (isWhole v) where
-    by : (n e : Bool) →
-        cond n
-        (leb (r .low + v .over / v .under + 1) (r .bias + cond e 1 0) && leb (r .bias) (r .high + v .over / v .under))
-        (leb (r .low) (r .bias + v .over / v .under) && leb (r .bias + v .over / v .under + 1) (r .high + cond e 1 0))
-        ≡ false
-    by true e = rw (lt-leb (r .low + v .over / v .under + 1) (r .bias + cond e 1 0) (omega (arith, one-at-most e)))
-    by false e = rw (lt-leb (r .bias + v .over / v .under + 1) (r .high + cond e 1 0) (omega (arith, one-at-most e)), and-false)
+  past r small h =
+      let n = v .over / v .under in
+      let one = one-at-most (isWhole v) in
+      split (v .negative) (λ e. rw (e, lt-leb (r .low + n + 1) (r .bias + cond (isWhole v) 1 0) (omega arith)))
+      (λ e. rw (e, lt-leb (r .bias + n + 1) (r .high + cond (isWhole v) 1 0) (omega arith), and-false))
 
   rounded-le : (step : ℕ) → roundedTo step (kept v) ≤ v .over / v .under + step
   unfolding roundedTo
-  rounded-le step = by (leb step (2 * (v .over / v .under % step) + cond (leb (v .under) (2 * (v .over % v .under))) 1 0)) where
-    by : (t : Bool) → (v .over / v .under / step + cond t 1 0) * step ≤ v .over / v .under + step
-    by true = up-le (v .over / v .under) step
-    by false = rw (add-zero (v .over / v .under / step)) (down-le (v .over / v .under) step)
+  rounded-le step =
+      let n = v .over / v .under in
+      cond-by (λ k. (n / step + k) * step ≤ n + step) (leb step (2 * (n % step) + cond (kept v .half) 1 0))
+      (λ e. up-le n step) (λ e. rw (add-zero (n / step)) (down-le n step))
 
   -- a value in a small range fits
   fits-small : (r : Range) → Small r → fitsRange r (kept v) ≡ true → placedIn r (kept v) ≤ 4294967295
   unfolding placedIn fitsRange
-  fits-small r small = by (v .negative) (isWhole v) where
-    by : (n e : Bool) →
-        cond n
-        (leb (r .low + v .over / v .under + 1) (r .bias + cond e 1 0) && leb (r .bias) (r .high + v .over / v .under))
-        (leb (r .low) (r .bias + v .over / v .under) && leb (r .bias + v .over / v .under + 1) (r .high + cond e 1 0))
-        ≡ true
-        → cond n (r .bias - roundedTo (r .step) (kept v)) (r .bias + roundedTo (r .step) (kept v)) ≤ 4294967295
-    by true e p = omega arith
-    by false e p =
-        let l = leb-true (r .bias + v .over / v .under + 1) (r .high + cond e 1 0) (and-second (leb (r .low) (r .bias + v .over / v .under)) _ p) in
-        omega (arith, l, one-at-most e, rounded-le (r .step))
+  fits-small r small p =
+      let n = v .over / v .under in
+      cond-by (λ k. k ≤ 4294967295) (v .negative) (λ e. omega arith)
+      (λ e. let both = rw e at p in
+        let l = leb-true (r .bias + n + 1) (r .high + cond (isWhole v) 1 0) (and-second (leb (r .low) _) _ both) in
+        omega (arith, one-at-most (isWhole v), rounded-le (r .step)))
 
   value-small : (r : Range) → Small r → fitsRange r (kept v) ≡ true → valueIn r (kept v) ≡ Value (placedIn r (kept v))
   unfolding valueIn
@@ -169,20 +139,13 @@ module _ (v : Exact) (pos : 0 < v .under) where
 
   takes : (r : Range) → Small r → takenOf r (quantityOf v) ≡ argumentOf r v
   unfolding takenOf argumentOf
-  takes r small = by (ltb (v .over / v .under) cap) refl where
-    either : (f w : Bool) → (f ≡ true → valueIn r (kept v) ≡ Value (placedIn r (kept v))) →
-        cond (f && w) (valueIn r (kept v)) Refused ≡ cond (f && w) (Value (placedIn r (kept v))) Refused
-    either true true g = g refl
-    either true false g = refl
-    either false w g = refl
-
-    by : (t : Bool) → ltb (v .over / v .under) cap ≡ t → takenOf r (quantityOf v) ≡ argumentOf r v
-    by true p =
-        let l : v .over / v .under ≤ cap = omega (arith, ltb-true (v .over / v .under) cap p) in
-        rw (min-eq-right l, p, in-range r, placed-is r) (either (fitsRange r (kept v)) (not (r .whole) || isWhole v) (value-small r small))
-    by false p =
-        let l : cap ≤ v .over / v .under = ltb-false (v .over / v .under) cap p in
-        rw (min-eq-left l, in-range r, past r small l)
+  takes r small =
+      split (ltb (v .over / v .under) cap)
+      (λ p. let l : v .over / v .under ≤ cap = omega (arith, ltb-true (v .over / v .under) cap p) in
+        rw (min-eq-right l, p, in-range r, placed-is r)
+        (split (fitsRange r (kept v)) (λ f. rw (value-small r small f)) (λ f. rw f)))
+      (λ p. let l : cap ≤ v .over / v .under = ltb-false (v .over / v .under) cap p in
+        rw (min-eq-left l, in-range r, past r small l))
 
 -- taking what is kept of a number is taking the number
 pub taken-exact : TakenExact

@@ -1,28 +1,24 @@
 -- The bounds of a word's parts, and what TRCB sends in each of its three cases. Assumes nothing.
-use Prim.Native.Nat.{ℕ, _-_, _%_, _≤_}
+use Prim.Native.Nat.{ℕ, _%_, _≤_}
 use native.Mathlib.Omega.{arith}
-use mathlib.Core.Bool.{Bool, true, false, cond, and-eq-true-iff}
-use mathlib.Core.Path.{_≡_, refl}
+use mathlib.Core.Bool.{Bool, true, false, and-eq-true-iff}
+use mathlib.Core.Path.{_≡_}
 use lib.Dec.{leb, eqb}
 use borrow.Author.Tests.{leb-true, leb-false, eq-eqb, ne-eqb}
+use Rattle.laws.proofs.Tests.{split, cond-by}
 use Rattle.point.specs.Point.{isNegative, magnitudeOf, exponentOf, topByte, isLegal, singleOf, floatOf}
 
 pub magnitude-le : (w : ℕ) → magnitudeOf w ≤ 32768
 unfolding magnitudeOf
-magnitude-le w = by (isNegative w) refl
-  where
-    by : (t : Bool) → leb 32768 (w % 65536) ≡ t → cond t (65536 - w % 65536) (w % 65536) ≤ 32768
-    by true h = omega (arith, leb-true)
-    by false h = omega (arith, leb-false)
+magnitude-le w =
+    let low = w % 65536 in
+    cond-by (λ n. n ≤ 32768) (isNegative w)
+    (λ e. omega (arith, leb-true 32768 low e)) (λ e. omega (arith, leb-false 32768 low e))
 
 -- m = 0 has no minus sign
 pub zero-positive : (w : ℕ) → magnitudeOf w ≡ 0 → isNegative w ≡ false
 unfolding magnitudeOf
-zero-positive w = by (isNegative w) refl
-  where
-    by : (t : Bool) → leb 32768 (w % 65536) ≡ t → cond t (65536 - w % 65536) (w % 65536) ≡ 0 → t ≡ false
-    by true h z = absurd (omega arith)
-    by false h z = refl
+zero-positive w z = split (isNegative w) (λ e. absurd (let some = rw e at z in omega arith)) (λ e. e)
 
 pub exponent-le : (w : ℕ) → isLegal w ≡ true → exponentOf w ≤ 236
 unfolding isLegal

@@ -4,11 +4,12 @@ use native.Mathlib.Nat.{mul-assoc, mul-one, zero-mul, mul-right-comm, eq-of-mul-
 use native.Mathlib.Omega.{arith}
 use mathlib.Core.Bool.{Bool, true, false}
 use mathlib.Core.Path.{_≡_, refl, sym, ap, _∙_}
-use lib.Dec.{lit<}
+use lib.Dec.{eqb, lit<}
 use lib.Pow.{pow-add, pow-pos, field}
 use lib.Ieee.{Float, nan, inf, fin, binary32, up, down, odd, ofFields, ofBits}
 use lib.Ieee.Exact.{HasValue, odd-sign}
-use borrow.Author.Tests.{ne-eqb}
+use borrow.Author.Tests.{ne-eqb, eqb-true, eqb-false}
+use Rattle.laws.proofs.Tests.{split}
 use Rattle.point.specs.Single.{signField, exponentField, fractionField}
 use Rattle.point.specs.Point.{isNegative, magnitudeOf, exponentOf, isLegal, highest, floatOf}
 use Rattle.point.specs.Exact.{SameValue, ReadAs, Exact}
@@ -90,23 +91,20 @@ zero-read w l z = rw (no-magnitude w l z, zero-positive w z, z) (refl, sym (mul-
 
 module _ (w : ℕ) where
   legal-read : isLegal w ≡ true → ReadAs w (floatOf w)
-  legal-read l = by (magnitudeOf w) refl
-    where
-      by : (a : ℕ) → magnitudeOf w ≡ a → ReadAs w (floatOf w)
-      by zero e = zero-read w l e
-      by (suc a) e = same-read w (floatOf w) (same-value w l (λ (z : magnitudeOf w ≡ 0). omega arith))
+  legal-read l =
+      split (eqb (magnitudeOf w) 0) (λ z. zero-read w l (eqb-true (magnitudeOf w) 0 z))
+      (λ z. same-read w (floatOf w) (same-value w l (eqb-false (magnitudeOf w) 0 z)))
 
   nan-read : isLegal w ≡ false → ofBits binary32 (floatOf w) ≡ nan
   unfolding ofBits ofFields
   nan-read l = rw (no-point w l)
 
   float-lt : floatOf w < 2 ^ 32
-  float-lt = by (isLegal w) (magnitudeOf w) refl refl
-    where
-      by : (t : Bool) (a : ℕ) → isLegal w ≡ t → magnitudeOf w ≡ a → floatOf w < 2 ^ 32
-      by false a l m = rw (no-point w l) (lit< tt)
-      by true zero l m = rw (no-magnitude w l m) (lit< tt)
-      by true (suc a) l m = same-lt w l (λ (z : magnitudeOf w ≡ 0). omega arith)
+  float-lt =
+      split (isLegal w)
+      (λ l. split (eqb (magnitudeOf w) 0) (λ z. rw (no-magnitude w l (eqb-true (magnitudeOf w) 0 z)) (lit< tt))
+        (λ z. same-lt w l (eqb-false (magnitudeOf w) 0 z)))
+      (λ l. rw (no-point w l) (lit< tt))
 
 pub exact : (w : ℕ) → Exact w
 exact w =

@@ -1,12 +1,13 @@
 -- A line's bytes, fed one at a time, wait in their order, and never more than 256 wait. Assumes nothing.
 use Prim.Native.Nat.{ℕ, _+_, _≤_, _<_}
-use mathlib.Core.Path.{_≡_, refl, sym, ap, _∙_}
+use mathlib.Core.Path.{_≡_, sym, ap, _∙_}
 use mathlib.Core.Bool.{Bool, true, false, cond, not, and-eq-true-iff}
 use mathlib.Core.List.{List, [], _∷_, _++_, append-nil, append-assoc}
 use native.Mathlib.Omega.{arith}
 use lib.Dec.{ltb}
 use lib.ListN.{length, length-take, length-set}
 use borrow.Author.Tests.{ltb-true, ltb-false, not-true}
+use Rattle.laws.proofs.Tests.{split}
 use Rattle.queue.specs.declared.Queue.{Queue}
 use Rattle.queue.specs.declared.Ended.the-variants.{Nothing, Line}
 use Rattle.queue.specs.Queue.{Fed, lineLimit, longer, waitingBytes, endsLine, isMarked, noEnd, keepsOf}
@@ -34,39 +35,32 @@ waiting-length q port k =
 
 added-length : (q : Queue) (b : ℕ) (marked : Bool) → addedOf q b marked .queue .len ≤ lineLimit
 unfolding tooLongOf
-added-length q b marked = by (ltb (q .len) lineLimit) refl
-  where
-    by : (t : Bool) → ltb (q .len) lineLimit ≡ t → addedOf q b marked .queue .len ≤ lineLimit
-    by true l = let h = ltb-true _ _ l in rw (added-fits q b marked h) (omega arith)
-    by false l = rw (added-full q b marked (ltb-false _ _ l)) (omega arith)
+added-length q b marked =
+    split (ltb (q .len) lineLimit) (λ l. let h = ltb-true _ _ l in rw (added-fits q b marked h) (omega arith))
+    (λ l. rw (added-full q b marked (ltb-false _ _ l)) (omega arith))
 
 pub fed-length : (q : Queue) (port b : ℕ) (mark : Bool) → keepsOf q port ≡ true → fedOf q port b mark .queue .len ≤ lineLimit
 unfolding droppedOf
-fed-length q port b mark k = by (q .dropping) (endsLine port b) refl refl
-  where
-    by : (d e : Bool) → q .dropping ≡ d → endsLine port b ≡ e → fedOf q port b mark .queue .len ≤ lineLimit
-    by true e p r = rw (fed-dropped q port b mark p) (facts q port k .fits)
-    by false true p r = rw (fed-ends q port b mark p r) (facts q port k .fits)
-    by false false p r = rw (fed-added q port b mark p r) (added-length q b (isMarked port mark))
+fed-length q port b mark k =
+    split (q .dropping) (λ d. rw (fed-dropped q port b mark d) (facts q port k .fits))
+    (λ d. split (endsLine port b) (λ e. rw (fed-ends q port b mark d e) (facts q port k .fits))
+      (λ e. rw (fed-added q port b mark d e) (added-length q b (isMarked port mark))))
 
 -- ---- the storage stays as long as it is
 
 added-bytes : (q : Queue) (b : ℕ) (marked : Bool) → length (addedOf q b marked .queue .bytes) ≡ length (q .bytes)
 unfolding tooLongOf
-added-bytes q b marked = by (ltb (q .len) lineLimit) refl
-  where
-    by : (t : Bool) → ltb (q .len) lineLimit ≡ t → length (addedOf q b marked .queue .bytes) ≡ length (q .bytes)
-    by true l = rw (added-fits q b marked (ltb-true _ _ l)) (length-set (q .bytes) (q .len) b)
-    by false l = rw (added-full q b marked (ltb-false _ _ l))
+added-bytes q b marked =
+    split (ltb (q .len) lineLimit)
+    (λ l. rw (added-fits q b marked (ltb-true _ _ l)) (length-set (q .bytes) (q .len) b))
+    (λ l. rw (added-full q b marked (ltb-false _ _ l)))
 
 pub fed-bytes : (q : Queue) (port b : ℕ) (mark : Bool) → length (fedOf q port b mark .queue .bytes) ≡ length (q .bytes)
 unfolding droppedOf
-fed-bytes q port b mark = by (q .dropping) (endsLine port b) refl refl
-  where
-    by : (d e : Bool) → q .dropping ≡ d → endsLine port b ≡ e → length (fedOf q port b mark .queue .bytes) ≡ length (q .bytes)
-    by true e p r = rw (fed-dropped q port b mark p)
-    by false true p r = rw (fed-ends q port b mark p r)
-    by false false p r = rw (fed-added q port b mark p r) (added-bytes q b (isMarked port mark))
+fed-bytes q port b mark =
+    split (q .dropping) (λ d. rw (fed-dropped q port b mark d))
+    (λ d. split (endsLine port b) (λ e. rw (fed-ends q port b mark d e))
+      (λ e. rw (fed-added q port b mark d e) (added-bytes q b (isMarked port mark))))
 
 -- ---- a line's bytes
 

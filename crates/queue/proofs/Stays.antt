@@ -6,6 +6,7 @@ use native.Mathlib.Omega.{arith}
 use lib.Dec.{ltb}
 use lib.ListN.{length}
 use borrow.Author.Tests.{ltb-true, ltb-false}
+use Rattle.laws.proofs.Tests.{split}
 use Rattle.queue.specs.declared.Queue.{Queue}
 use Rattle.queue.specs.Queue.{lineLimit, emptyQueue, emptiedOf, droppingIs, longer, waitingBytes, endsLine, isMarked, droppedOf, tooLongOf, addedOf, fedOf, noEnd, keepsOf}
 use Rattle.queue.proofs.Cases.{added-fits, added-full, fed-dropped, fed-ends, fed-added}
@@ -42,16 +43,13 @@ module _ (q : Queue) (port : ℕ) (k : keepsOf q port ≡ true) where
         })
 
     added-keeps : (marked : Bool) → keepsOf (addedOf q b marked .queue) port ≡ true
-    added-keeps marked = by (ltb (q .len) lineLimit) refl
-      where
-        by : (t : Bool) → ltb (q .len) lineLimit ≡ t → keepsOf (addedOf q b marked .queue) port ≡ true
-        by true l = let h = ltb-true _ _ l in rw (added-fits q b marked h) (longer-keeps h)
-        by false l = rw (added-full q b marked (ltb-false _ _ l)) (too-long-keeps marked)
+    added-keeps marked =
+        split (ltb (q .len) lineLimit) (λ l. let h = ltb-true _ _ l in rw (added-fits q b marked h) (longer-keeps h))
+        (λ l. rw (added-full q b marked (ltb-false _ _ l)) (too-long-keeps marked))
 
   pub fed-keeps : (b : ℕ) (mark : Bool) → length (q .bytes) ≡ lineLimit → keepsOf (fedOf q port b mark .queue) port ≡ true
-  fed-keeps b mark long = by (q .dropping) (endsLine port b) refl refl
-    where
-      by : (d e : Bool) → q .dropping ≡ d → endsLine port b ≡ e → keepsOf (fedOf q port b mark .queue) port ≡ true
-      by true e p r = rw (fed-dropped q port b mark p) (dropped-keeps (endsLine port b || isMarked port mark) p)
-      by false true p r = rw (fed-ends q port b mark p r) k
-      by false false p r = rw (fed-added q port b mark p r) (added-keeps b long p r (isMarked port mark))
+  fed-keeps b mark long =
+      split (q .dropping)
+      (λ d. rw (fed-dropped q port b mark d) (dropped-keeps (endsLine port b || isMarked port mark) d))
+      (λ d. split (endsLine port b) (λ e. rw (fed-ends q port b mark d e) k)
+        (λ e. rw (fed-added q port b mark d e) (added-keeps b long d e (isMarked port mark))))

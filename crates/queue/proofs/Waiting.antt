@@ -1,6 +1,6 @@
 -- The bytes that wait, read one after the other, and with one byte more. Assumes nothing.
 use Prim.Native.Nat.{ℕ, zero, suc, _+_, _≤_, _<_}
-use mathlib.Core.Path.{_≡_, refl, sym, _∙_}
+use mathlib.Core.Path.{_≡_, sym, _∙_}
 use mathlib.Core.Bool.{Bool, true, false, not, _&&_, and-eq-true-iff}
 use mathlib.Core.List.{List, [], _∷_, _++_}
 use native.Mathlib.Omega.{arith}
@@ -9,6 +9,7 @@ use lib.ListN.{length, take, drop, getD, drop-of-length-le}
 use lib.Seq.{drop-cons, getD-take, take-suc-set, length-take-le}
 use lib.Dec.{ltb, eqb}
 use borrow.Author.Tests.{ltb-true, ltb-false, eqb-true, eqb-false, not-true}
+use Rattle.laws.proofs.Tests.{split}
 use Rattle.queue.specs.declared.Queue.{Queue}
 use Rattle.queue.specs.Queue.{longer, waitingBytes, endsLine, noEnd}
 use Rattle.queue.specs.Parts.{EndNone}
@@ -41,13 +42,10 @@ Exactly port bytes at k none = (none ≡ true → EndNone port bytes at k) × (E
 module _ (port : ℕ) (bytes : List ℕ) (at k : ℕ) (none ends : Bool) (so : Exactly port bytes at k none)
     (own : ends ≡ endsLine port (getD bytes (at + k) 0)) where
   holds : none && not ends ≡ true → EndNone port bytes at (k + 1)
-  holds both j h = by (eqb j k) refl where
-    parts : (none ≡ true) × (not ends ≡ true)
-    parts = and-eq-true-iff none (not ends) .0 both
-
-    by : (t : Bool) → eqb j k ≡ t → endsLine port (getD bytes (at + j) 0) ≡ false
-    by true e = rw (eqb-true j k e) (sym own ∙ not-true ends (parts .1))
-    by false e = so .0 (parts .0) j (omega (arith, eqb-false j k e))
+  holds both j h =
+      let parts = and-eq-true-iff none (not ends) .0 both in
+      split (eqb j k) (λ e. rw (eqb-true j k e) (sym own ∙ not-true ends (parts .1)))
+      (λ e. so .0 (parts .0) j (omega (arith, eqb-false j k e)))
 
   only : EndNone port bytes at (k + 1) → none && not ends ≡ true
   only clear = rw (so .1 (λ j h. clear j (omega arith)), own, clear k (omega arith))
@@ -62,17 +60,14 @@ module _ (port : ℕ) (bytes : List ℕ) (len i : ℕ) (fits : len ≤ length by
 
   pub rest-skips : (n : ℕ) → EndNone port bytes i n → Left (i + n) ≡ Left i
   rest-skips zero clear = let e : i + 0 ≡ i = omega arith in rw e
-  rest-skips (suc n) clear = by (ltb (i + n) len) refl (rest-skips n (λ k h. clear k (omega arith))) where
-    e : i + suc n ≡ (i + n) + 1
-    e = omega arith
-
-    by : (t : Bool) → ltb (i + n) len ≡ t → Left (i + n) ≡ Left i → Left (i + suc n) ≡ Left i
-    by true l ih =
-        rw e (sym (rest-goes-on port bytes len (i + n) fits (ltb-true _ _ l) (clear n (omega arith))) ∙ ih)
-    by false l ih =
-        let past = ltb-false (i + n) len l in
+  rest-skips (suc n) clear =
+      let e : i + suc n ≡ (i + n) + 1 = omega arith in
+      let ih = rest-skips n (λ k h. clear k (omega arith)) in
+      split (ltb (i + n) len)
+      (λ l. rw e (sym (rest-goes-on port bytes len (i + n) fits (ltb-true _ _ l) (clear n (omega arith))) ∙ ih))
+      (λ l. let past = ltb-false (i + n) len l in
         let none = rest-none port bytes len ((i + n) + 1) fits (omega arith) in
-        rw e (none ∙ sym (rest-none port bytes len (i + n) fits past) ∙ ih)
+        rw e (none ∙ sym (rest-none port bytes len (i + n) fits past) ∙ ih))
 
 -- one byte more in a queue with room
 pub waiting-more : (q : Queue) (b : ℕ) → q .len < length (q .bytes) → waitingBytes (longer q b) ≡ waitingBytes q ++ (b ∷ [])

@@ -10,10 +10,11 @@ use lib.Dec.{leb}
 use lib.ListN.{length, length-append, getD, take, drop, drop-of-length-le}
 use lib.Seq.{take-length}
 use borrow.Author.Tests.{le-leb, lt-leb, lt-ltb, le-ltb, eq-eqb, ne-eqb, ltb-false}
-use Rattle.divide.specs.Divide.{span, before, after}
+use Rattle.divide.specs.Divide.{span, after}
 use Rattle.divide.proofs.Span.{span-le, rest-from}
-use Rattle.number.specs.Number.{minus, point, letterE, begins, unsigned, digits, allDigits, isExponent, isMantissa, hasExponent, isNumber}
-use Rattle.number.specs.Value.{decimal, decimalAfter, up, down, exactOf}
+use Rattle.laws.proofs.Tests.{split}
+use Rattle.number.specs.Number.{minus, letterE, begins, unsigned, allDigits, isExponent, isMantissa, hasExponent, isNumber}
+use Rattle.number.specs.Value.{decimalAfter, up, down, exactOf}
 use Rattle.number.specs.Parts.{quantityOf, readOf}
 use Rattle.reading.specs.Parts.{shortOf, exponentOf, raisedBy, loweredBy, TwoDigits, Bounded, moved, digitsOf, mantissaOf, withExponent, unsignedOf}
 use Rattle.reading.specs.declared.Short.{Short}
@@ -51,14 +52,9 @@ short-two (a ∷ b ∷ d ∷ t) g h n e = absurd (omega arith)
 -- an exponent: its sign, and one or two digits
 exponent-is : (x : List ℕ) → exponentOf x ≡ cond (begins minus x) (loweredBy (shortOf (unsigned x))) (raisedBy (shortOf (unsigned x)))
 unfolding exponentOf isExponent shortOf
-exponent-is x = by (begins minus x) (leb 1 (length (unsigned x)) && (leb (length (unsigned x)) 2 && allDigits (unsigned x))) where
-  by : (m t : Bool) →
-      cond t (Power (cond m 0 (decimal (unsigned x))) (cond m (decimal (unsigned x)) 0)) Wrong
-      ≡ cond m (loweredBy (cond t (Of (decimal (unsigned x))) Long)) (raisedBy (cond t (Of (decimal (unsigned x))) Long))
-  by true true = refl
-  by true false = refl
-  by false true = refl
-  by false false = refl
+exponent-is x =
+    let t = leb 1 (length (unsigned x)) && (leb (length (unsigned x)) 2 && allDigits (unsigned x)) in
+    split (begins minus x) (λ m. rw m (split t (λ e. rw e) (λ e. rw e))) (λ m. rw m (split t (λ e. rw e) (λ e. rw e)))
 
 pub exponent-none : (x : List ℕ) → length x < 1 → Wrong ≡ exponentOf x
 unfolding exponentOf isExponent unsigned
@@ -146,14 +142,12 @@ module _ (negative : Bool) (u : List ℕ) (decimals e : ℕ) (is : e ≡ span 69
 -- the whole text: what is read of it is what the definition says
 read-is : (decimals : ℕ) (s : List ℕ) → unsignedOf (begins minus s) (unsigned s) decimals ≡ readOf decimals s
 unfolding unsignedOf withExponent mantissaOf digitsOf exponentOf readOf isNumber isMantissa exactOf begins unsigned decimalAfter
-read-is decimals s = by (hasExponent (unsigned s)) refl (isExponent (after letterE (unsigned s))) refl where
-  by : (t : Bool) → hasExponent (unsigned s) ≡ t → (x : Bool) → isExponent (after letterE (unsigned s)) ≡ x →
-      unsignedOf (begins minus s) (unsigned s) decimals ≡ readOf decimals s
-  by true p true q = rw (p, q)
-  by true p false q = rw (p, q)
-  by false p x q =
-      let l : span letterE (unsigned s) ≡ length (unsigned s) = omega (arith, span-le letterE (unsigned s), ltb-false (span letterE (unsigned s)) (length (unsigned s)) p) in
-      rw (p, l, take-length (unsigned s), add-zero decimals)
+read-is decimals s =
+    let u = unsigned s in
+    split (hasExponent u) (λ p. split (isExponent (after letterE u)) (λ q. rw (p, q)) (λ q. rw (p, q)))
+    (λ p. let l : span letterE u ≡ length u =
+      omega (arith, span-le letterE u, ltb-false (span letterE u) (length u) p) in
+      rw (p, l, take-length u, add-zero decimals))
 
 pub read-none : (decimals : ℕ) (s : List ℕ) → length s < 1 → NotNumber ≡ readOf decimals s
 unfolding readOf isNumber isMantissa unsigned span

@@ -1,7 +1,7 @@
 -- A number's digits by their places: its whole part, its half and its rest. Assumes nothing.
 use Prim.Native.Nat.{ℕ, zero, suc, _+_, _-_, _*_, _^_, _<_, _≤_, min}
 use mathlib.Core.Path.{_≡_, refl, sym, ap, _∙_}
-use mathlib.Core.Bool.{Bool, true, false, _&&_}
+use mathlib.Core.Bool.{Bool, true, false, _&&_, and-eq-true-iff}
 use mathlib.Core.List.{List, [], _∷_, _++_}
 use native.Mathlib.Omega.{arith}
 use native.Mathlib.Numerals.{add-one, one-add}
@@ -15,7 +15,7 @@ use Rattle.number.specs.Number.{allDigits, isDigit}
 use Rattle.number.specs.Value.{decimalAfter, decimal}
 use Rattle.number.specs.Parts.{cap, quantityOf}
 use Rattle.reading.specs.Parts.{digit, places, allZero, moved}
-use Rattle.number.proofs.Exact.{and-first, and-second}
+use Rattle.laws.proofs.Tests.{split, and-first, and-second}
 
 -- n digits and then m: the first n make the upper part
 pub places-add : (ds : List ℕ) (k n m : ℕ) → places ds k (n + m) ≡ places ds k n * 10 ^ m + places ds (k + n) m
@@ -66,28 +66,24 @@ pub digit-range : (ds : List ℕ) → allDigits ds ≡ true → (k : ℕ) → (4
 unfolding allDigits
 digit-range [] h k = omega arith
 digit-range (d ∷ ds) h zero =
-    let both = and-first (isDigit d) (allDigits ds) h in
-    (leb-true 48 d (and-first (leb 48 d) (leb d 57) both), leb-true d 57 (and-second (leb 48 d) (leb d 57) both))
+    let both = and-eq-true-iff (leb 48 d) (leb d 57) .0 (and-first (isDigit d) (allDigits ds) h) in
+    (leb-true 48 d (both .0), leb-true d 57 (both .1))
 digit-range (d ∷ ds) h (suc k) = digit-range ds (and-second (isDigit d) (allDigits ds) h) k
 
 -- a first digit b, of the weight p, above a rest r
 half-digit : (b p r : ℕ) → 0 < p → r < p → 48 ≤ b → leb (p * 10) (2 * ((b - 48) * p + r)) ≡ leb 53 b
-half-digit b p r hp hr hb = by (leb 53 b) refl where
-  by : (t : Bool) → leb 53 b ≡ t → leb (p * 10) (2 * ((b - 48) * p + r)) ≡ t
-  by true z =
-      let l : 5 ≤ b - 48 = omega (arith, leb-true 53 b z) in
-      le-leb (p * 10) (2 * ((b - 48) * p + r)) (omega (arith, mul-le-mul-right p l))
-  by false z =
-      let l : b - 48 ≤ 4 = omega (arith, leb-false 53 b z) in
-      lt-leb (p * 10) (2 * ((b - 48) * p + r)) (omega (arith, mul-le-mul-right p l))
+half-digit b p r hp hr hb =
+    split (leb 53 b)
+    (λ z. let l : 5 ≤ b - 48 = omega (arith, leb-true 53 b z) in
+      rw (z, le-leb (p * 10) (2 * ((b - 48) * p + r)) (omega (arith, mul-le-mul-right p l))))
+    (λ z. let l : b - 48 ≤ 4 = omega (arith, leb-false 53 b z) in
+      rw (z, lt-leb (p * 10) (2 * ((b - 48) * p + r)) (omega (arith, mul-le-mul-right p l))))
 
 zero-digit : (b p r : ℕ) → 0 < p → 48 ≤ b → eqb ((b - 48) * p + r) 0 ≡ (eqb b 48 && eqb r 0)
-zero-digit b p r hp hb = by (eqb b 48) refl where
-  by : (t : Bool) → eqb b 48 ≡ t → eqb ((b - 48) * p + r) 0 ≡ (t && eqb r 0)
-  by true z = rw (eqb-true b 48 z, zero-mul p, zero-add r)
-  by false z =
-      let l : 1 ≤ b - 48 = omega (arith, eqb-false b 48 z) in
-      ne-eqb ((b - 48) * p + r) 0 (λ e. omega (arith, mul-le-mul-right p l))
+zero-digit b p r hp hb =
+    split (eqb b 48) (λ z. rw (eqb-true b 48 z, zero-mul p, zero-add r))
+    (λ z. let l : 1 ≤ b - 48 = omega (arith, eqb-false b 48 z) in
+      rw (z, ne-eqb ((b - 48) * p + r) 0 (λ e. omega (arith, mul-le-mul-right p l))))
 
 module _ (ds : List ℕ) (all : allDigits ds ≡ true) where
   digit-low : (k : ℕ) → digit ds k < 10
@@ -110,18 +106,17 @@ module _ (ds : List ℕ) (all : allDigits ds ≡ true) where
   pub rest-zero : (n k : ℕ) → length ds ≤ k + n → eqb (places ds k n) 0 ≡ allZero (drop k ds)
   unfolding places allZero
   rest-zero zero k h = rw (drop-of-length-le ds {i = k} (omega arith))
-  rest-zero (suc n) k h = by (rest-zero n (suc k) (omega arith)) (ltb k (length ds)) refl where
-    by : eqb (places ds (suc k) n) 0 ≡ allZero (drop (suc k) ds) → (t : Bool) → ltb k (length ds) ≡ t → eqb (places ds k (suc n)) 0 ≡ allZero (drop k ds)
-    by ih true p =
-        rw (
-          drop-cons ds k 48 (ltb-true k (length ds) p),
-          places-first ds k n,
-          zero-digit (getD ds k 48) (10 ^ n) (places ds (suc k) n) (one-le-pow n 10 (omega arith)) (digit-range ds all k .0),
-          ih,
-        )
-    by ih false p =
-        let l : length ds ≤ k = ltb-false k (length ds) p in
-        rw (places-past ds k (suc n) l, drop-of-length-le ds {i = k} l)
+  rest-zero (suc n) k h =
+      split (ltb k (length ds))
+      (λ p. rw (
+        drop-cons ds k 48 (ltb-true k (length ds) p),
+        places-first ds k n,
+        zero-digit (getD ds k 48) (10 ^ n) (places ds (suc k) n) (one-le-pow n 10 (omega arith))
+        (digit-range ds all k .0),
+        rest-zero n (suc k) (omega arith),
+      ))
+      (λ p. let l = ltb-false k (length ds) p in
+        rw (places-past ds k (suc n) l, drop-of-length-le ds {i = k} l))
 
 module _ (negative : Bool) (front back : List ℕ) (up down : ℕ) (all : allDigits (front ++ back) ≡ true) where
   over-is : decimal (front ++ back) * 10 ^ up ≡ places (front ++ back) 0 (length front + length back + up)

@@ -1,6 +1,5 @@
 -- Replies one after another in the room that is lent, and how long they are. Assumes nothing.
 use Prim.Native.Nat.{ℕ, zero, suc, _+_, _*_, _<_, _≤_}
-use mathlib.Core.Bool.{Bool, true, false, cond}
 use mathlib.Core.Path.{_≡_, refl}
 use mathlib.Core.List.{List, [], _++_, append-assoc}
 use native.Mathlib.Nat.{zero-add}
@@ -10,6 +9,7 @@ use borrow.Author.Tests.{leb-true}
 use lib.Dec.{leb}
 use lib.ListN.{length, take, drop, getD, set, length-append, length-drop}
 use lib.Seq.{take-append-seam, drop-append-seam, drop-drop, paste-suc}
+use Rattle.laws.proofs.Tests.{split}
 use Rattle.point.specs.Bytes.{lowFirst, littleEndian}
 use Rattle.name.specs.declared.Form.{Form}
 use Rattle.reply.specs.Reply.{over, fitsIn, sentBytes, pointBytes}
@@ -49,19 +49,12 @@ front-more s o i hs ho =
 -- what is written fits, and its length is what is told
 pub sentBytes-length : (bytes : List ℕ) (room : ℕ) → length (sentBytes bytes room) ≤ room
 unfolding sentBytes fitsIn
-sentBytes-length bytes room = by (leb (length bytes) room) (leb-true (length bytes) room)
-  where
-    by : (t : Bool) → (t ≡ true → length bytes ≤ room) → length (cond t bytes []) ≤ room
-    by true h = h refl
-    by false h = omega arith
+sentBytes-length bytes room =
+    split (leb (length bytes) room) (λ e. rw e (leb-true (length bytes) room e)) (λ e. rw e (omega arith))
 
 pub sent-written : (bytes : List ℕ) (room : ℕ) → sentOf bytes room .written ≡ length (sentBytes bytes room)
 unfolding sentBytes
-sent-written bytes room = by (fitsIn bytes room)
-  where
-    by : (t : Bool) → cond t (length bytes) 0 ≡ length (cond t bytes [])
-    by true = refl
-    by false = refl
+sent-written bytes room = split (fitsIn bytes room) (λ e. rw e) (λ e. rw e)
 
 pub word-length : (x : ℕ) → length (littleEndian x) ≡ 4
 unfolding lowFirst littleEndian

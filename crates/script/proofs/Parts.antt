@@ -1,13 +1,13 @@
 -- The first line of a script, and the others; how many parts there are. Assumes nothing.
 use Prim.Native.Nat.{ℕ, suc, _<_, _≤_}
 use mathlib.Core.Path.{_≡_, refl, ap, _∙_}
-use mathlib.Core.Bool.{Bool, true, false, cond}
 use mathlib.Core.List.{List, [], _∷_}
 use native.Mathlib.Omega.{arith}
 use lib.Dec.{eqb, ltb}
 use lib.ListN.{length, take, drop, drop-of-length-le}
 use lib.Seq.{take-all}
 use borrow.Author.Tests.{ltb-true, ltb-false}
+use Rattle.laws.proofs.Tests.{split}
 use Rattle.divide.specs.Divide.{span, onHead, parts}
 use Rattle.divide.proofs.Span.{span-le, parts-first, parts-more, parts-last}
 use Rattle.script.specs.Check.{withoutLast, linesOf}
@@ -27,21 +27,16 @@ unfolding withoutLast parts
 no-lines = refl
 
 -- the first line of a script, and the others
-first-by : (t : Bool) (s : List ℕ) → ltb (span 10 s) (length s) ≡ t → 0 < length s → linesOf s ≡ take (span 10 s) s ∷ linesOf (drop (suc (span 10 s)) s)
-first-by true s e h =
-    let l = ltb-true (span 10 s) (length s) e in
-    let rest = drop (suc (span 10 s)) s in
-    ap withoutLast (parts-more 10 s l) ∙ more-lines (take (span 10 s) s) _ (parts 10 rest) _ (parts-first 10 rest)
-first-by false s e h =
-    let l = ltb-false (span 10 s) (length s) e in
-    let m = span-le 10 s in
-    let k : span 10 s ≡ length s = omega arith in
-    ap withoutLast (parts-last 10 s k)
-    ∙ last-line s h
-    ∙ rw (k, take-all (length s) s (omega arith), drop-of-length-le s {i = suc (length s)} (omega arith), no-lines)
-
 pub lines-first : (s : List ℕ) → 0 < length s → linesOf s ≡ take (span 10 s) s ∷ linesOf (drop (suc (span 10 s)) s)
-lines-first s h = first-by (ltb (span 10 s) (length s)) s refl h
+lines-first s h =
+    split (ltb (span 10 s) (length s))
+    (λ e. let rest = drop (suc (span 10 s)) s in
+      ap withoutLast (parts-more 10 s (ltb-true (span 10 s) (length s) e))
+      ∙ more-lines (take (span 10 s) s) _ (parts 10 rest) _ (parts-first 10 rest))
+    (λ e. let k : span 10 s ≡ length s = omega (arith, ltb-false (span 10 s) (length s) e, span-le 10 s) in
+      ap withoutLast (parts-last 10 s k)
+      ∙ last-line s h
+      ∙ rw (k, take-all (length s) s (omega arith), drop-of-length-le s {i = suc (length s)} (omega arith), no-lines))
 
 pub lines-none : (s : List ℕ) (a : ℕ) → length s ≤ a → linesOf (drop a s) ≡ []
 lines-none s a h = rw (drop-of-length-le s {i = a} h) no-lines
@@ -55,8 +50,7 @@ head-length b (p ∷ ps) = omega arith
 pub parts-length : (sep : ℕ) (s : List ℕ) → length (parts sep s) ≤ suc (length s)
 unfolding parts
 parts-length sep [] = omega arith
-parts-length sep (b ∷ bs) = by (eqb b sep) (parts-length sep bs) (head-length b (parts sep bs)) where
-  by : (t : Bool) → length (parts sep bs) ≤ suc (length bs) → length (onHead b (parts sep bs)) ≤ suc (length (parts sep bs))
-      → length (cond t ([] ∷ parts sep bs) (onHead b (parts sep bs))) ≤ suc (suc (length bs))
-  by true h g = omega arith
-  by false h g = omega arith
+parts-length sep (b ∷ bs) =
+    let h = parts-length sep bs in
+    let g = head-length b (parts sep bs) in
+    split (eqb b sep) (λ e. rw e (omega arith)) (λ e. rw e (omega arith))

@@ -1,18 +1,16 @@
 -- A turn of the loop over a line's commands. Assumes nothing.
-use Prim.Native.Nat.{ℕ, suc, _+_, _-_, _<_, _≤_}
+use Prim.Native.Nat.{ℕ, _+_, _-_, _<_, _≤_}
 use mathlib.Core.Path.{_≡_, sym, ap, _∙_}
-use mathlib.Core.List.{List}
+use mathlib.Core.List.{List, _∷_}
 use native.Mathlib.Omega.{arith}
-use lib.ListN.{length, take, drop, length-drop}
-use lib.Seq.{drop-drop}
+use lib.ListN.{length, take, drop}
 use Rattle.divide.specs.Divide.{span, parts}
-use Rattle.divide.proofs.Span.{parts-first, parts-more, parts-last}
+use Rattle.divide.proofs.Span.{part-first, part-last, part-more}
 use Rattle.refusal.specs.declared.Refusal.{Refusal}
 use Rattle.refusal.specs.declared.Outcome.the-variants as outcome
 use Rattle.command.specs.Parsed.{parsedOf}
 use Rattle.command.specs.declared.Parsed.{Parsed}
 use Rattle.clean.specs.Texts.{semicolon}
-use Rattle.refusal.specs.declared.Answer.{Answer}
 use Rattle.refusal.specs.declared.Answer.the-variants as answer
 use Rattle.two_courses.specs.Courses.{textRefusal, textAfter}
 use Rattle.two_courses.specs.declared.Both.{Both}
@@ -26,61 +24,36 @@ pub record OnWay (capacity : ℕ) (text : List ℕ) (b₀ : Both) (b : Both) (pl
   pub past : textsAfter capacity (parts semicolon text) b₀ ≡ textsAfter capacity (parts semicolon (drop a text)) b
   pub counted : place ≤ a + 1
 
--- an answer that is a refusal is not a pass
-abbrev mark : Answer → ℕ
-mark answer.Passed = 0
-mark (answer.Refused r place) = 1
-
-apart : {A : Type 0} (r : Refusal) (place : ℕ) → answer.Refused r place ≡ answer.Passed → A
-apart r place z = let n : _≡_ {A = ℕ} 1 0 = ap mark z in absurd (omega arith)
-
 module _ {capacity : ℕ} {text : List ℕ} {b₀ b : Both} {place a : ℕ} (v : OnWay capacity text b₀ b place a)
     (e : ℕ) (at-e : e ≡ a + span semicolon (drop a text)) (p : Parsed) (read : p ≡ parsedOf (take (e - a) (drop a text))) where
-  same-text : p ≡ parsedOf (take (span semicolon (drop a text)) (drop a text))
-  same-text =
-      let k : e - a ≡ span semicolon (drop a text) = omega arith in
-      read ∙ ap (λ n. parsedOf (take n (drop a text))) k
+  here : parts semicolon (drop a text) ≡ take (e - a) (drop a text) ∷ drop 1 (parts semicolon (drop a text))
+  here = part-first semicolon text a e (v .inside) at-e
 
-  answered : textsAnswer capacity 1 (parts semicolon text) b₀
-      ≡ answerAt (textRefusal p b) place (textsAnswer capacity (place + 1) (drop 1 (parts semicolon (drop a text))) (textAfter capacity p b))
+  answered : textsAnswer capacity 1 (parts semicolon text) b₀ ≡ answerAt (textRefusal p b) place
+      (textsAnswer capacity (place + 1) (drop 1 (parts semicolon (drop a text))) (textAfter capacity p b))
   unfolding textsAnswer
-  answered = v .told ∙ ap (λ ts. textsAnswer capacity place ts b) (parts-first semicolon (drop a text))
-      ∙ ap (λ q. answerAt (textRefusal q b) place (textsAnswer capacity (place + 1) (drop 1 (parts semicolon (drop a text))) (textAfter capacity q b))) (sym same-text)
+  answered = v .told ∙ ap (λ ts. textsAnswer capacity place ts b) here ∙ rw read
 
   went : textsAfter capacity (parts semicolon text) b₀ ≡ textsAfter capacity (drop 1 (parts semicolon (drop a text))) (textAfter capacity p b)
   unfolding textsAfter
-  went =
-      v .past
-      ∙ ap (λ ts. textsAfter capacity ts b) (parts-first semicolon (drop a text))
-      ∙ ap (λ q. textsAfter capacity (drop 1 (parts semicolon (drop a text))) (textAfter capacity q b)) (sym same-text)
+  went = v .past ∙ ap (λ ts. textsAfter capacity ts b) here ∙ rw read
 
   pub refused : (r : Refusal) (last : Both) → textRefusal p b ≡ outcome.Refused r →
       Sweeps capacity (parts semicolon text) b₀ (record { both = last; answer = answer.Refused r place })
   unfolding answerAt
-  refused r last f = record { told = sym (answered ∙ rw f); past = λ z. apart r place z }
+  refused r last f =
+      record { told = sym (answered ∙ rw f); past = λ z. let n : _≡_ {A = ℕ} 0 1 = cc in absurd (omega arith) }
 
   pub ended : textRefusal p b ≡ outcome.Done → e ≡ length text →
       Sweeps capacity (parts semicolon text) b₀ (record { both = textAfter capacity p b; answer = answer.Passed })
   unfolding answerAt textsAnswer textsAfter
   ended f l =
-      let i = v .inside in
-      let h : span semicolon (drop a text) ≡ length (drop a text) = simp length-drop (omega arith) in
-      let n = parts-last semicolon (drop a text) h in
+      let n = part-last semicolon text a e (v .inside) at-e l in
       record { told = sym (answered ∙ rw (f, n)); past = λ z. sym (went ∙ rw n) }
 
   pub again : textRefusal p b ≡ outcome.Done → e < length text → OnWay capacity text b₀ (textAfter capacity p b) (place + 1) (e + 1)
   unfolding answerAt
   again f l =
-      let i = v .inside in
       let c = v .counted in
-      let h : span semicolon (drop a text) < length (drop a text) = simp length-drop (omega arith) in
-      let j : a + suc (span semicolon (drop a text)) ≡ e + 1 = omega arith in
-      let m : drop (suc (span semicolon (drop a text))) (drop a text) ≡ drop (e + 1) text =
-      drop-drop (suc (span semicolon (drop a text))) a text ∙ ap (λ k. drop k text) j in
-      let n = parts-more semicolon (drop a text) h in
-      record {
-        inside = omega arith;
-        told = answered ∙ rw (f, n, m);
-        past = went ∙ rw (n, m);
-        counted = omega arith;
-      }
+      let n = part-more semicolon text a e (v .inside) at-e l in
+      record { inside = omega arith; told = answered ∙ rw (f, n); past = went ∙ rw n; counted = omega arith }

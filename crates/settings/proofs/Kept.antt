@@ -12,7 +12,8 @@ use Rattle.number.specs.Value.{Exact, exactOf, rounded, argumentOf}
 use Rattle.number.specs.declared.Range.{Range}
 use Rattle.number.specs.declared.Argument.{Argument}
 use Rattle.number.specs.declared.Argument.the-variants.{Value, Refused}
-use Rattle.number.proofs.Exact.{and-first, and-second, under-pos}
+use Rattle.laws.proofs.Tests.{and-first, and-second}
+use Rattle.number.proofs.Exact.{under-pos}
 use Rattle.settings.specs.Limits.{hertz, frequencyLow, frequencyHigh}
 use Rattle.settings.specs.Table.{entries, table, rowOf, phas, freq, turnedOf, valueOf, withValue}
 use Rattle.settings.specs.Frequency.{stepBy, frequencyStep}

@@ -10,7 +10,7 @@ use borrow.Author.Tests.{leb-true}
 use Rattle.number.specs.Value.{Exact, inRange, nearest, rounded, isWhole, argumentOf}
 use Rattle.number.specs.declared.Range.{Range}
 use Rattle.number.specs.declared.Argument.the-variants.{Value, Refused}
-use Rattle.number.proofs.Exact.{and-first, and-second}
+use Rattle.laws.proofs.Tests.{and-first, and-second}
 
 -- whole bounds of b + a / d bound b and the number nearest to a / d
 module _ (a d : ℕ) (pos : 0 < d) where

@@ -2,13 +2,14 @@
 use Prim.Native.Nat.{ℕ, zero, suc, _+_, _*_, _/_, _%_, _^_, _≤_, _<_, min, max}
 use native.Mathlib.Nat.{le-trans, mod-le, mul-le-mul-right, mul-assoc, one-mul, div-eq-of-lt, div-mul-le-self, div-self, div-div-eq-div-mul, lt-of-lt-of-le, pow-succ', pow-suc}
 use native.Mathlib.Omega.{arith}
-use mathlib.Core.Bool.{Bool, true, false, cond}
+use mathlib.Core.Bool.{true, false}
 use mathlib.Core.Path.{_≡_, refl, sym, ap, ap₂, _∙_}
 use lib.Arith.{bin-ind, digits-mod}
 use lib.Bits.{bitAnd, bitOr, and-step, or-step, and-shr, or-shr}
 use lib.Dec.{eqb, ltb}
 use lib.Pow.{pow-mono, pow-pos, shl-exact}
 use borrow.Author.Tests.{lt-ltb, eq-eqb, ne-eqb, eqb-true, not-false}
+use Rattle.laws.proofs.Tests.{cond-by}
 use Rattle.status.specs.Bits.{bitOf, withoutBit, withBit, meets, only, BitByBit}
 
 -- ---- one bit
@@ -85,11 +86,9 @@ unfolding meets
 meets-none x m h = rw (eq-eqb (bitAnd x m) 0 h)
 
 pub only-le : (mask x : ℕ) → only mask x ≡ true → (i : ℕ) → bitOf x i ≤ bitOf mask i
-unfolding only
 only-le mask x h i = omega (arith, bit-and x mask i, ap (λ (n : ℕ). bitOf n i) (eqb-true (bitAnd x mask) x h))
 
 le-only : (mask x : ℕ) → ((i : ℕ) → bitOf x i ≤ bitOf mask i) → only mask x ≡ true
-unfolding only
 le-only mask x h = eq-eqb (bitAnd x mask) x (same-bits (bitAnd x mask) x (λ i. omega (arith, bit-and x mask i, h i)))
 
 -- the weight of bit i has that bit and no other
@@ -151,12 +150,11 @@ with-one x i value h n = rw (lt-ltb i 8 h, ne-eqb value 0 n) (bit-or x (2 ^ i) i
 
 pub with-other : (x i value j : ℕ) → (i ≡ j → ⊥) → bitOf (withBit x i value) j ≡ bitOf x j
 unfolding withBit
-with-other x i value j d = by (ltb i 8) (eqb value 0)
-  where
-    by : (small none : Bool) → bitOf (cond small (cond none (withoutBit x i) (bitOr x (2 ^ i))) x) j ≡ bitOf x j
-    by true true = without-other x i j d
-    by true false = bit-or x (2 ^ i) j ∙ omega (arith, power-other i j d)
-    by false none = refl
+with-other x i value j d =
+    cond-by (λ y. bitOf y j ≡ bitOf x j) (ltb i 8)
+    (λ small. cond-by (λ y. bitOf y j ≡ bitOf x j) (eqb value 0) (λ none. without-other x i j d)
+      (λ some. bit-or x (2 ^ i) j ∙ omega (arith, power-other i j d)))
+    (λ large. refl)
 
 -- ---- the promise
 

@@ -1,12 +1,13 @@
 -- The registers and enables that a state may have stay such under every function of `status`. Assumes nothing.
-use Prim.Native.Nat.{ℕ, _%_, _^_, _≤_, min}
+use Prim.Native.Nat.{ℕ, _%_, _^_, _≤_}
 use native.Mathlib.Nat.{le-of-eq}
 use native.Mathlib.Omega.{arith}
-use mathlib.Core.Bool.{Bool, true, false, not, and-eq-true-iff}
+use mathlib.Core.Bool.{true, not, and-eq-true-iff}
 use mathlib.Core.Path.{_≡_, refl}
 use lib.Dec.{eqb}
 use lib.Bits.{bitAnd, bitOr}
 use borrow.Author.Tests.{eqb-true, eqb-false, not-true}
+use Rattle.laws.proofs.Tests.{split}
 use Rattle.name.specs.declared.Register.{Register}
 use Rattle.name.specs.declared.Register.the-variants.{Standard, Service, Lia, Errors}
 use Rattle.status.specs.Bits.{bitOf, withoutBit, withBit, meets, only}
@@ -23,22 +24,19 @@ or-apart a b m p q = bits-apart (bitOr a b) m (λ i. rw bit-or (omega (arith, ap
 
 -- with a bit cleared, each bit is that of x or 0
 without-le : (x i j : ℕ) → bitOf (withoutBit x i) j ≤ bitOf x j
-without-le x i j = by (eqb i j) refl
-  where
-    by : (t : Bool) → eqb i j ≡ t → bitOf (withoutBit x i) j ≤ bitOf x j
-    by true h = rw (← eqb-true i j h, without-here) (omega arith)
-    by false h = le-of-eq (without-other x i j (eqb-false i j h))
+without-le x i j =
+    split (eqb i j) (λ h. rw (← eqb-true i j h, without-here) (omega arith))
+    (λ h. le-of-eq (without-other x i j (eqb-false i j h)))
 
 pub without-apart : (x i m : ℕ) → bitAnd x m ≡ 0 → bitAnd (withoutBit x i) m ≡ 0
 without-apart x i m p = bits-apart (withoutBit x i) m (λ j. omega (arith, without-le x i j, apart-bits x m p j))
 
 -- a cleared bit is apart from its mask
 pub cleared-apart : (x i : ℕ) → bitAnd (withoutBit x i) (2 ^ i) ≡ 0
-cleared-apart x i = bits-apart (withoutBit x i) (2 ^ i) (λ j. by j (eqb i j) refl)
-  where
-    by : (j : ℕ) (t : Bool) → eqb i j ≡ t → min (bitOf (withoutBit x i) j) (bitOf (2 ^ i) j) ≡ 0
-    by j true h = rw (← eqb-true i j h, without-here) (omega arith)
-    by j false h = omega (arith, power-other i j (eqb-false i j h))
+cleared-apart x i =
+    bits-apart (withoutBit x i) (2 ^ i)
+    (λ j. split (eqb i j) (λ h. rw (← eqb-true i j h, without-here) (omega arith))
+      (λ h. omega (arith, power-other i j (eqb-false i j h))))
 
 -- bits within a mask are apart from what the mask is apart from
 pub only-apart : (mask x m : ℕ) → only mask x ≡ true → bitAnd mask m ≡ 0 → bitAnd x m ≡ 0

@@ -27,7 +27,7 @@ unfoldable pub meets : ℕ → ℕ → Bool
 meets x y = not (eqb (bitAnd x y) 0)
 
 -- whether no bit of x is set but bits of the mask
-unfoldable pub only : ℕ → ℕ → Bool
+abbrev pub only : ℕ → ℕ → Bool
 only mask x = eqb (bitAnd x mask) x
 
 -- the weight of bit i where the test holds, else 0

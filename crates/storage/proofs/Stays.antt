@@ -1,17 +1,18 @@
 -- Storage stays one that a state may hold, whatever is done to it. Assumes nothing.
 use Prim.Native.Nat.{ℕ, _+_, _≤_, _<_, min}
 use native.Mathlib.Omega.{arith}
-use mathlib.Core.Bool.{Bool, true, false, cond, not, _||_, and-eq-true-iff, and-false, false≢true}
+use mathlib.Core.Bool.{Bool, true, false, cond, _||_, and-eq-true-iff, and-false, false≢true}
 use mathlib.Core.List.{List}
 use mathlib.Core.Path.{_≡_, refl, sym, ap, _∙_}
 use lib.Dec.{leb, ltb, eqb}
 use lib.ListN.{length}
 use borrow.Author.Tests.{ltb-true, ltb-false, leb-true, lt-ltb, le-ltb, le-leb, lt-leb}
+use Rattle.laws.proofs.Tests.{split, cond-by, and-first}
 use Rattle.storage.specs.declared.Phase.{Phase}
 use Rattle.storage.specs.declared.Phase.the-variants.{Reset, Running, Paused, Done}
 use Rattle.storage.specs.declared.Storage.{Storage}
 use Rattle.storage.specs.declared.Sampling.{Sampling}
-use Rattle.storage.specs.Storage.{externalRate, oneShot, triggerStarts, isReset, isRunning, isPaused, isDone, inPhase, startedOf, pausedOf, emptiedStorage, nextSlot, heldAfter, fullInOneShot, storedOf, storing, tickStores, tickedOf, readiedOf, triggerStores, triggeredOf, keepsOf}
+use Rattle.storage.specs.Storage.{oneShot, triggerStarts, isReset, isRunning, isPaused, isDone, inPhase, startedOf, pausedOf, emptiedStorage, nextSlot, heldAfter, fullInOneShot, storedOf, storing, tickStores, tickedOf, readiedOf, triggerStores, triggeredOf, keepsOf}
 use Rattle.storage.proofs.Kept.{facts, test}
 
 -- ---- what a state's storage has
@@ -119,11 +120,8 @@ reset-keeps s capacity end other r k =
 
 next-inside : (slot capacity : ℕ) → 1 ≤ capacity → nextSlot slot capacity < capacity
 unfolding nextSlot
-next-inside slot capacity h = by (ltb (slot + 1) capacity) refl
-  where
-    by : (t : Bool) → ltb (slot + 1) capacity ≡ t → cond t (slot + 1) 0 < capacity
-    by true e = ltb-true (slot + 1) capacity e
-    by false e = h
+next-inside slot capacity h =
+    cond-by (λ n. n < capacity) (ltb (slot + 1) capacity) (λ e. ltb-true (slot + 1) capacity e) (λ e. h)
 
 next-on : (slot capacity : ℕ) → slot + 1 < capacity → nextSlot slot capacity ≡ slot + 1
 unfolding nextSlot
@@ -156,14 +154,10 @@ never-reset s false d = d
 
 -- in one shot a running storage has room
 pub room : (s : Storage) (capacity end : ℕ) → isRunning s ≡ true → keepsOf s capacity end ≡ true → eqb end oneShot ≡ true → s .held < capacity
-room s capacity end r k o = by (ltb (s .held) capacity) refl
-  where
-    by : (t : Bool) → ltb (s .held) capacity ≡ t → s .held < capacity
-    by true q = ltb-true _ _ q
-    by false q =
-        absurd
-        (false≢true
-        (sym (running-only (s .phase) s r .0) ∙ facts s capacity end k .done ∙ full-test (s .held) capacity end o (ltb-false _ _ q)))
+room s capacity end r k o =
+    split (ltb (s .held) capacity) (λ q. ltb-true _ _ q)
+    (λ q. let full = full-test (s .held) capacity end o (ltb-false _ _ q) in
+      absurd (false≢true (sym (running-only (s .phase) s r .0) ∙ facts s capacity end k .done ∙ full)))
 
 pub stored-keeps : (s : Storage) (capacity end : ℕ) → isRunning s ≡ true → keepsOf s capacity end ≡ true
     → keepsOf (storedOf s capacity end) capacity end ≡ true
@@ -195,26 +189,23 @@ storing-keeps : (t : Bool) (s : Storage) (capacity end : ℕ) → (t ≡ true �
 storing-keeps true s capacity end r k = stored-keeps s capacity end (r refl) k
 storing-keeps false s capacity end r k = k
 
-readied-either : (t : Bool) (s : Storage) (capacity end : ℕ) → keepsOf s capacity end ≡ true → keepsOf (cond t (startedOf s) s) capacity end ≡ true
-readied-either true s capacity end k = started-keeps s capacity end k
-readied-either false s capacity end k = k
-
 module _ (s : Storage) (capacity : ℕ) (by : Sampling) where
   pub ticked-keeps : keepsOf s capacity (by .end) ≡ true → keepsOf (tickedOf s capacity by .storage) capacity (by .end) ≡ true
   unfolding tickedOf tickStores
   ticked-keeps =
-      storing-keeps (tickStores s by) s capacity (by .end) (λ e. and-eq-true-iff (isRunning s) (not (eqb (by .rate) externalRate)) .0 e .0)
+      storing-keeps (tickStores s by) s capacity (by .end) (λ e. and-first (isRunning s) _ e)
 
   pub readied-keeps : keepsOf s capacity (by .end) ≡ true → keepsOf (readiedOf s by) capacity (by .end) ≡ true
   unfolding readiedOf
-  readied-keeps = readied-either (eqb (by .start) triggerStarts) s capacity (by .end)
+  readied-keeps k =
+      cond-by (λ r. keepsOf r capacity (by .end) ≡ true) (eqb (by .start) triggerStarts)
+      (λ e. started-keeps s capacity (by .end) k) (λ e. k)
 
   pub triggered-keeps : keepsOf s capacity (by .end) ≡ true → keepsOf (triggeredOf s capacity by .storage) capacity (by .end) ≡ true
   unfolding triggeredOf triggerStores
   triggered-keeps k =
       storing-keeps (triggerStores s by) (readiedOf s by) capacity (by .end)
-      (λ e. and-eq-true-iff (isRunning (readiedOf s by)) (eqb (by .rate) externalRate) .0 e .0)
-      (readied-keeps k)
+      (λ e. and-first (isRunning (readiedOf s by)) _ e) (readied-keeps k)
 
 -- STRT, PAUS and the start by a trigger leave the points held and the next slot, so the pair goes to that of the storage before
 pub record Same (t s : Storage) : Type 0 where
@@ -235,7 +226,6 @@ paused-same s = phase-same (isRunning s) Paused s
 
 pub readied-same : (s : Storage) (by : Sampling) → Same (readiedOf s by) s
 unfolding readiedOf
-readied-same s by = either (eqb (by .start) triggerStarts) where
-  either : (t : Bool) → Same (cond t (startedOf s) s) s
-  either true = started-same s
-  either false = record { held = refl; next = refl }
+readied-same s by =
+    cond-by (λ r. Same r s) (eqb (by .start) triggerStarts) (λ e. started-same s)
+    (λ e. record { held = refl; next = refl })

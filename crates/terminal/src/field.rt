@@ -16,28 +16,13 @@ pub const DECIMAL: u8 = 10;
 
 pub const HEX: u8 = 16;
 
-// Whether two texts are the same.
-pub fn same(a: &[u8], b: &[u8]) -> bool {
-    if a.len() != b.len() {
-        return false;
-    }
-    let mut i = 0;
-    while i < a.len() {
-        if a[i] != b[i] {
-            return false;
-        }
-        i += 1;
-    }
-    true
-}
-
 // The place of a word among words that single spaces divide, from 0: past the last where it is none of them.
 pub fn place_of(words: &[u8], word: &[u8]) -> usize {
     let mut place = 0;
     let mut start = 0;
     while start < words.len() {
         let end = divide::end_of(words, b' ', start);
-        if same(&words[start..end], word) {
+        if check::same(&words[start..end], word) {
             return place;
         }
         start = end + 1;

@@ -3,7 +3,6 @@ ghost use Prim.Native.Nat.{_≤_};
 use crate::field::HEX;
 use crate::field::Number;
 use crate::field::number_of;
-use crate::field::same;
 use crate::output::put;
 use crate::output::put_all;
 
@@ -48,7 +47,7 @@ fn decode_pairs(text: &[u8], bytes: &mut [u8]) -> Decoded {
 
 // Puts the bytes of a text in hex, `-` where there are none, at the start of a buffer.
 pub fn decode(text: &[u8], bytes: &mut [u8]) -> Decoded {
-    if same(text, b"-") {
+    if check::same(text, b"-") {
         return Decoded::Bytes(0);
     }
     if text.len() == 0 {

@@ -1,6 +1,6 @@
 -- What is written, read again, is the same value, once over the decimals. Assumes nothing.
 use Prim.Native.Nat.{ℕ, zero, suc, _+_, _*_, _/_, _^_, _≤_, _<_}
-use mathlib.Core.Bool.{Bool, true, false, cond}
+use mathlib.Core.Bool.{true, false, cond}
 use mathlib.Core.Path.{_≡_, refl, sym, ap, _∙_}
 use mathlib.Core.List.{List, [], _∷_, _++_}
 use native.Mathlib.Omega.{arith}
@@ -14,6 +14,7 @@ use Rattle.divide.specs.Divide.{span, before, after}
 use Rattle.number.specs.Number.{minus, point, letterE, begins, unsigned, digitLimit, hasExponent, isMantissa, isNumber}
 use Rattle.number.specs.Value.{decimalAfter, exactOf}
 use Rattle.number.specs.Parts.{cap, readOf}
+use Rattle.laws.proofs.Tests.{split}
 use Rattle.text.specs.Text.{padded, places, plain, fixed, sign, distance, signedText}
 use Rattle.text.specs.Again.{exactly, ReadAgain}
 use Rattle.text.proofs.Digits.{padded-empty, padded-length, places-some, places-whole}
@@ -113,8 +114,6 @@ read-above d n l h =
 
 pub read-again : ReadAgain
 unfolding signedText sign
-read-again d bias v l h k = by (ltb v bias)
-  where
-    by : (t : Bool) → readOf d (cond t (minus ∷ []) [] ++ fixed d (distance bias v)) ≡ exactly t (distance bias v)
-    by true = read-below d (distance bias v) l (omega arith)
-    by false = read-above d (distance bias v) l (omega arith)
+read-again d bias v l h k =
+    split (ltb v bias) (λ e. rw e (read-below d (distance bias v) l (omega arith)))
+    (λ e. rw e (read-above d (distance bias v) l (omega arith)))

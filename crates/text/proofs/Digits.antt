@@ -1,15 +1,15 @@
 -- The digits of a number: how many there are, and one at a time. Assumes nothing.
 use Prim.Native.Nat.{ℕ, zero, suc, _+_, _-_, _*_, _/_, _%_, _^_, _≤_, _<_}
-use mathlib.Core.Bool.{Bool, true, false, cond}
 use mathlib.Core.Path.{_≡_, refl, sym, ap}
 use mathlib.Core.List.{List, [], _∷_}
 use native.Mathlib.Omega.{arith}
 use native.Mathlib.Nat.{pow-suc, one-le-pow, div-div-eq-div-mul, div-lt-iff-lt-mul}
 use native.Mathlib.Numerals.{add-one}
-use borrow.Author.Tests.{ltb-true, ltb-false, le-ltb, lt-ltb}
+use borrow.Author.Tests.{ltb-true, le-ltb, lt-ltb}
 use lib.Dec.{ltb}
 use lib.Pow.{pow-add}
 use lib.ListN.{length}
+use Rattle.laws.proofs.Tests.{split, cond-by}
 use Rattle.text.specs.Text.{padded, placesIn, places}
 use Rattle.text.specs.Parts.{added}
 use Rattle.text.proofs.Added.{added-join}
@@ -54,29 +54,21 @@ places-more (suc n) h =
     rw (le-ltb (suc n) 10 h) (ap suc (enough n (suc n / 10) (suc n / 10) (omega arith) (omega arith)))
 
 -- the count is the least: n is below that power of ten, and below no smaller one but where n is 0
-module _ (m n : ℕ) where
-  hold-go : (t : Bool) → ltb n 10 ≡ t → n / 10 < 10 ^ placesIn m (n / 10) → n < 10 ^ cond t 1 (suc (placesIn m (n / 10)))
-  hold-go true e h = let l = ltb-true n 10 e in omega arith
-  hold-go false e h = rw pow-suc (omega arith)
-
-  least-go : (t : Bool) (k : ℕ) → ltb n 10 ≡ t → n < 10 ^ suc k → (0 < k → n / 10 < 10 ^ k → placesIn m (n / 10) ≤ k) →
-      cond t 1 (suc (placesIn m (n / 10))) ≤ suc k
-  least-go true k e h f = omega arith
-  least-go false zero e h f = let l = ltb-false n 10 e in absurd (omega arith)
-  least-go false (suc k) e h f =
-      let g = f (omega arith) (omega (arith, pow-suc 10 (suc k))) in
-      omega arith
-
 hold-in : (m n : ℕ) → n ≤ m → n < 10 ^ placesIn m n
 unfolding placesIn
 hold-in zero n h = omega arith
-hold-in (suc m) n h = hold-go m n (ltb n 10) refl (hold-in m (n / 10) (omega arith))
+hold-in (suc m) n h =
+    let below = hold-in m (n / 10) (omega arith) in
+    split (ltb n 10) (λ e. let l = ltb-true n 10 e in rw e (omega arith)) (λ e. rw (e, pow-suc) (omega arith))
 
 least-in : (m n k : ℕ) → 0 < k → n < 10 ^ k → placesIn m n ≤ k
 unfolding placesIn
 least-in m n zero l h = absurd (omega arith)
 least-in zero n (suc k) l h = omega arith
-least-in (suc m) n (suc k) l h = least-go m n (ltb n 10) k refl h (least-in m (n / 10) k)
+least-in (suc m) n (suc zero) l h = rw (lt-ltb n 10 (omega arith)) (omega arith)
+least-in (suc m) n (suc (suc k)) l h =
+    let fewer = least-in m (n / 10) (suc k) (omega arith) (omega (arith, pow-suc 10 (suc k))) in
+    cond-by (λ p. p ≤ suc (suc k)) (ltb n 10) (λ e. omega arith) (λ e. omega arith)
 
 pub places-hold : (n : ℕ) → n < 10 ^ places n
 places-hold n = hold-in n n (omega arith)
@@ -84,11 +76,7 @@ places-hold n = hold-in n n (omega arith)
 pub places-some : (n : ℕ) → 0 < places n
 unfolding placesIn
 places-some zero = omega arith
-places-some (suc n) = some-go (ltb (suc n) 10) (placesIn n (suc n / 10))
-  where
-    some-go : (t : Bool) (k : ℕ) → 0 < cond t 1 (suc k)
-    some-go true k = omega arith
-    some-go false k = omega arith
+places-some (suc n) = cond-by (λ k. 0 < k) (ltb (suc n) 10) (λ e. omega arith) (λ e. omega arith)
 
 pub places-least : (n k : ℕ) → 0 < k → n < 10 ^ k → places n ≤ k
 places-least n k l h = least-in n n k l h

@@ -13,7 +13,7 @@ abbrev pub placeMost : ℕ
 placeMost = 2 ^ 16 - 1
 
 -- 40 bits for the line, 16 for the place, 8 for the refusal's number
-unfoldable pub packed : ℕ → ℕ → ℕ → ℕ
+abbrev pub packed : ℕ → ℕ → ℕ → ℕ
 packed line place number = min line lineMost * 2 ^ 24 + min place placeMost * 2 ^ 8 + number
 
 -- the number of each verdict, by document 01's number of its refusal; 0 where nothing is refused

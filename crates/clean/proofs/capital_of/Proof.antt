@@ -10,11 +10,8 @@ returns c = rw (lt-ltb _ _ (c .if1 .taken))
 returns-2 : tie.Need-returns-2
 returns-2 c = rw (le-ltb _ _ (c .before .if1 .left), lt-ltb _ _ (c .if2 .taken))
 
-sub-result : tie.Need-sub-result
-sub-result c = search needs
-
 returns-3 : tie.Need-returns-3
 returns-3 c = rw (le-ltb _ _ (c .before .if1 .left), le-ltb _ _ (c .if2 .left))
 
 pub capital-of-spec : {M : Type 1} → statement M
-capital-of-spec = tie.close (tie.spec returns returns-2 sub-result returns-3)
+capital-of-spec = tie.close (tie.spec returns returns-2 (λ c. search needs) returns-3)

@@ -18,17 +18,8 @@ abbrev μ-loop : tie.MeasureT-loop
 loop-holds : tie.Need-loop-holds Inv-loop μ-loop
 loop-holds c = (omega arith, refl, refl)
 
-shared-slice-read-b : tie.Need-shared-slice-read-b Inv-loop μ-loop
-shared-slice-read-b c = omega arith
-
 is-dropped-requires : tie.Need-is-dropped-requires Inv-loop μ-loop
 is-dropped-requires c κs = tt
-
-add-i : tie.Need-add-i Inv-loop μ-loop
-add-i c = omega arith
-
-loop-less : tie.Need-loop-less Inv-loop μ-loop
-loop-less c = omega arith
 
 loop-again : tie.Need-loop-again Inv-loop μ-loop
 loop-again c =
@@ -38,18 +29,6 @@ loop-again c =
 
 capital-of-requires : tie.Need-capital-of-requires Inv-loop μ-loop
 capital-of-requires c κs = tt
-
-array-write-bytes : tie.Need-array-write-bytes Inv-loop μ-loop
-array-write-bytes c = omega arith
-
-add-len : tie.Need-add-len Inv-loop μ-loop
-add-len c = omega arith
-
-add-i-2 : tie.Need-add-i-2 Inv-loop μ-loop
-add-i-2 c = omega arith
-
-loop-less-2 : tie.Need-loop-less-2 Inv-loop μ-loop
-loop-less-2 c = omega arith
 
 loop-again-2 : tie.Need-loop-again-2 Inv-loop μ-loop
 loop-again-2 c =
@@ -61,12 +40,6 @@ loop-again-2 c =
           (kept-more (v .bytes) (v .len) _ _ (v .inv .1) (c .before .if2 .taken)
           ∙ rw (cleaned-keep line (v .i) (c .before .before .before .before .before .loop-test .taken) (sym (c .before .before .before .is-dropped .ensures) ∙ c .before .before .if1 .left)) at (v .inv .2)),
     )
-
-add-i-3 : tie.Need-add-i-3 Inv-loop μ-loop
-add-i-3 c = omega arith
-
-loop-less-3 : tie.Need-loop-less-3 Inv-loop μ-loop
-loop-less-3 c = omega arith
 
 loop-again-3 : tie.Need-loop-again-3 Inv-loop μ-loop
 loop-again-3 c =
@@ -87,22 +60,6 @@ returns c =
 pub clean-spec : {M : Type 1} → statement M
 clean-spec =
     tie.close
-    (tie.spec
-    Inv-loop
-    μ-loop
-    loop-holds
-    shared-slice-read-b
-    is-dropped-requires
-    add-i
-    loop-less
-    loop-again
-    capital-of-requires
-    array-write-bytes
-    add-len
-    add-i-2
-    loop-less-2
-    loop-again-2
-    add-i-3
-    loop-less-3
-    loop-again-3
-    returns)
+    (tie.spec Inv-loop μ-loop loop-holds (λ c. omega arith) is-dropped-requires (λ c. omega arith) (λ c. omega arith)
+    loop-again capital-of-requires (λ c. omega arith) (λ c. omega arith) (λ c. omega arith) (λ c. omega arith)
+    loop-again-2 (λ c. omega arith) (λ c. omega arith) loop-again-3 returns)

@@ -9,21 +9,6 @@ use Rattle.divide.proofs.Span.{span-le, rest-from}
 use Rattle.divide.proofs.end_of.Statement.{statement}
 use Rattle.divide.proofs.end_of.Tie as tie
 
-sub-span-of : tie.Need-sub-span-of
-sub-span-of c = search needs
-
-part-span-of-start : tie.Need-part-span-of-start
-part-span-of-start c = search needs
-
-part-span-of-end : tie.Need-part-span-of-end
-part-span-of-end c = search needs
-
-span-of-requires : tie.Need-span-of-requires
-span-of-requires c κs = search needs
-
-add-result : tie.Need-add-result
-add-result c = search needs
-
 returns : tie.Need-returns
 returns c =
     let k = c .before .before .args in
@@ -41,4 +26,5 @@ returns-2 c =
 pub end-of-spec : {M : Type 1} → statement M
 end-of-spec =
     tie.close
-    (tie.spec returns sub-span-of part-span-of-start part-span-of-end span-of-requires add-result returns-2)
+    (tie.spec returns (λ c. search needs) (λ c. search needs) (λ c. search needs) (λ c κs. search needs)
+    (λ c. search needs) returns-2)

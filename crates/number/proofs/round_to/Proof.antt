@@ -11,15 +11,6 @@ returns : tie.Need-returns
 unfolding roundedTo
 returns c = (rw (c .if1 .taken, mul-zero), omega arith)
 
-one-if-requires : tie.Need-one-if-requires
-one-if-requires c κs = search needs
-
-div-quotient : tie.Need-div-quotient
-div-quotient c = search needs
-
-rem-if2 : tie.Need-rem-if2
-rem-if2 c = search needs
-
 mul-if2 : tie.Need-mul-if2
 mul-if2 c = omega (arith, mod-lt (c .before .before .args .q .whole) {m = c .before .before .args .step} (omega arith))
 
@@ -46,15 +37,5 @@ returns-3 c = (rw (← c .before .one-if .ensures .0, lt-leb _ _ (c .if2 .left),
 pub round-to-spec : {M : Type 1} → statement M
 round-to-spec =
     tie.close
-    (tie.spec
-    returns
-    one-if-requires
-    div-quotient
-    rem-if2
-    mul-if2
-    add-if2
-    add-result
-    mul-result
-    returns-2
-    mul-result-2
-    returns-3)
+    (tie.spec returns (λ c κs. search needs) (λ c. search needs) (λ c. search needs) mul-if2 add-if2 add-result
+    mul-result returns-2 mul-result-2 returns-3)

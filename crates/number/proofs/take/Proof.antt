@@ -9,12 +9,6 @@ returns : tie.Need-returns
 unfolding takenOf
 returns c = rw (le-ltb _ _ (c .if1 .taken))
 
-fits-requires : tie.Need-fits-requires
-fits-requires c κs = search needs
-
-value-in-requires : tie.Need-value-in-requires
-value-in-requires c κs = search needs
-
 returns-2 : tie.Need-returns-2
 unfolding takenOf
 returns-2 c = rw (← c .value-in .ensures, lt-ltb _ _ (c .before .before .before .before .before .if1 .left), ← c .before .before .before .before .fits2 .ensures, c .before .before .before .if2 .taken, c .before .before .if3 .taken, c .before .if4 .taken)
@@ -22,9 +16,6 @@ returns-2 c = rw (← c .value-in .ensures, lt-ltb _ _ (c .before .before .befor
 returns-3 : tie.Need-returns-3
 unfolding takenOf
 returns-3 c = rw (lt-ltb _ _ (c .before .before .before .before .if1 .left), ← c .before .before .before .fits2 .ensures, c .before .before .if2 .taken, c .before .if3 .taken, c .if4 .left)
-
-value-in-requires-2 : tie.Need-value-in-requires-2
-value-in-requires-2 c κs = search needs
 
 returns-4 : tie.Need-returns-4
 unfolding takenOf
@@ -37,12 +28,5 @@ returns-5 c = rw (lt-ltb _ _ (c .before .before .if1 .left), ← c .before .fits
 pub take-spec : {M : Type 1} → statement M
 take-spec =
     tie.close
-    (tie.spec
-    returns
-    fits-requires
-    value-in-requires
-    returns-2
-    returns-3
-    value-in-requires-2
-    returns-4
-    returns-5)
+    (tie.spec returns (λ c κs. search needs) (λ c κs. search needs) returns-2 returns-3 (λ c κs. search needs)
+    returns-4 returns-5)

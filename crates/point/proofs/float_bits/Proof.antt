@@ -30,25 +30,13 @@ module _ (c : tie.After-exponent) where
   sent : (s : Bool) → s ≡ isNegative word → floatOf word ≡ singleOf s a e
   sent s n = some-magnitude word fine (c .before .before .magnitude .ensures) (c .before .if2 .left) (c .exponent .ensures) n
 
-legal-requires : tie.Need-legal-requires
-legal-requires c κs = search needs
-
-magnitude-requires : tie.Need-magnitude-requires
-magnitude-requires c κs = search needs
-
 returns : tie.Need-returns
 returns c =
     let at = c .before .before .before in
     sym (no-magnitude (at .before .args .word) (sym (at .legal .ensures) ∙ c .before .before .if1 .taken) (sym (c .before .magnitude .ensures) ∙ c .if2 .taken))
 
-exponent-requires : tie.Need-exponent-requires
-exponent-requires c κs = search needs
-
 single-requires : tie.Need-single-requires
 single-requires c κs = bounds c
-
-negative-requires : tie.Need-negative-requires
-negative-requires c κs = search needs
 
 add-result : tie.Need-add-result
 add-result c =
@@ -73,14 +61,5 @@ returns-4 c = sym (no-point (c .before .before .args .word) (sym (c .before .leg
 pub float-bits-spec : {M : Type 1} → statement M
 float-bits-spec =
     tie.close
-    (tie.spec
-    legal-requires
-    magnitude-requires
-    returns
-    exponent-requires
-    single-requires
-    negative-requires
-    add-result
-    returns-2
-    returns-3
-    returns-4)
+    (tie.spec (λ c κs. search needs) (λ c κs. search needs) returns (λ c κs. search needs) single-requires
+    (λ c κs. search needs) add-result returns-2 returns-3 returns-4)

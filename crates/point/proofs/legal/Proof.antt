@@ -5,9 +5,6 @@ use Rattle.point.specs.Point.{topByte, isLegal}
 use Rattle.point.proofs.legal.Statement.{statement}
 use Rattle.point.proofs.legal.Tie as tie
 
-exponent-requires : tie.Need-exponent-requires
-exponent-requires c κs = search needs
-
 returns : tie.Need-returns
 unfolding isLegal
 returns c = rw (c .exponent .ensures, eq-eqb (topByte (c .before .before .args .word)) 0 (c .before .if1 .taken))
@@ -17,4 +14,4 @@ unfolding isLegal
 returns-2 c = rw (ne-eqb (topByte (c .before .args .word)) 0 (c .if1 .left))
 
 pub legal-spec : {M : Type 1} → statement M
-legal-spec = tie.close (tie.spec exponent-requires returns returns-2)
+legal-spec = tie.close (tie.spec (λ c κs. search needs) returns returns-2)

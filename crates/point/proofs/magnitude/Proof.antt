@@ -5,12 +5,6 @@ use Rattle.point.specs.Point.{magnitudeOf}
 use Rattle.point.proofs.magnitude.Statement.{statement}
 use Rattle.point.proofs.magnitude.Tie as tie
 
-negative-requires : tie.Need-negative-requires
-negative-requires c κs = search needs
-
-sub-result : tie.Need-sub-result
-sub-result c = search needs
-
 returns : tie.Need-returns
 unfolding magnitudeOf
 returns c = rw (sym (c .before .negative .ensures) ∙ c .if1 .taken)
@@ -20,4 +14,4 @@ unfolding magnitudeOf
 returns-2 c = rw (sym (c .before .negative .ensures) ∙ c .if1 .left)
 
 pub magnitude-spec : {M : Type 1} → statement M
-magnitude-spec = tie.close (tie.spec negative-requires sub-result returns returns-2)
+magnitude-spec = tie.close (tie.spec (λ c κs. search needs) (λ c. search needs) returns returns-2)

@@ -13,12 +13,6 @@ known c = placed (c .args .a) (c .pre .0 .0) (c .pre .0 .1)
 sub-field : tie.Need-sub-field
 sub-field c = omega (arith, known c)
 
-add-field : tie.Need-add-field
-add-field c = search needs
-
-add-field-2 : tie.Need-add-field-2
-add-field-2 c = search needs
-
 sub-fraction : tie.Need-sub-fraction
 sub-fraction c = omega (arith, known c)
 
@@ -27,9 +21,6 @@ shl-fraction c = omega (arith, known c)
 
 sub-fraction-2 : tie.Need-sub-fraction-2
 sub-fraction-2 c = omega (arith, known c)
-
-mul-result : tie.Need-mul-result
-mul-result c = search needs
 
 add-result : tie.Need-add-result
 add-result c = omega (arith, known c)
@@ -41,13 +32,5 @@ returns c = omega (arith, known c)
 pub single-spec : {M : Type 1} → statement M
 single-spec =
     tie.close
-    (tie.spec
-    sub-field
-    add-field
-    add-field-2
-    sub-fraction
-    shl-fraction
-    sub-fraction-2
-    mul-result
-    add-result
-    returns)
+    (tie.spec sub-field (λ c. search needs) (λ c. search needs) sub-fraction shl-fraction sub-fraction-2
+    (λ c. search needs) add-result returns)

@@ -5,20 +5,10 @@ use Rattle.point.proofs.Bytes.{four-bytes}
 use Rattle.point.proofs.word_bytes.Statement.{statement}
 use Rattle.point.proofs.word_bytes.Tie as tie
 
-cast-low : tie.Need-cast-low
-cast-low c = search needs
-
-cast-second : tie.Need-cast-second
-cast-second c = search needs
-
-cast-third : tie.Need-cast-third
-cast-third c = search needs
-
-cast-top : tie.Need-cast-top
-cast-top c = search needs
-
 returns : tie.Need-returns
 returns c = sym (four-bytes (c .args .x) (c .fits .x .fits))
 
 pub word-bytes-spec : {M : Type 1} → statement M
-word-bytes-spec = tie.close (tie.spec cast-low cast-second cast-third cast-top returns)
+word-bytes-spec =
+    tie.close
+    (tie.spec (λ c. search needs) (λ c. search needs) (λ c. search needs) (λ c. search needs) returns)

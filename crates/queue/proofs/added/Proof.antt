@@ -10,20 +10,11 @@ returns : tie.Need-returns
 unfolding addedOf tooLongOf
 returns c = record { fed = λ bytes. rw (le-ltb _ _ (c .if1 .taken)); run = λ bytes. refl }
 
-add-t7 : tie.Need-add-t7
-add-t7 c = search needs
-
 returns-2 : tie.Need-returns-2
 unfolding addedOf
 returns-2 c =
     let room = lt-ltb _ _ (c .before .if1 .left) in
     record { fed = λ bytes. rw (room, c .if2 .taken); run = λ bytes. refl }
-
-add-t9 : tie.Need-add-t9
-add-t9 c = search needs
-
-add-t10 : tie.Need-add-t10
-add-t10 c = search needs
 
 returns-3 : tie.Need-returns-3
 unfolding addedOf
@@ -32,4 +23,6 @@ returns-3 c =
     record { fed = λ bytes. rw (room, c .if2 .left); run = λ bytes. refl }
 
 pub added-spec : {M : Type 1} → statement M
-added-spec = tie.close (tie.spec returns add-t7 returns-2 add-t9 add-t10 returns-3)
+added-spec =
+    tie.close
+    (tie.spec returns (λ c. search needs) returns-2 (λ c. search needs) (λ c. search needs) returns-3)

@@ -35,12 +35,6 @@ passed-over-requires c κs = omega (arith, c .before .before .pre)
 loop-holds : tie.Need-loop-holds Inv-loop μ-loop
 loop-holds c = c .passed-over .ensures
 
-element-copy-out-ends-line : tie.Need-element-copy-out-ends-line Inv-loop μ-loop
-element-copy-out-ends-line c = search needs
-
-ends-line-requires : tie.Need-ends-line-requires Inv-loop μ-loop
-ends-line-requires c κs = search needs
-
 returns-3 : tie.Need-returns-3 Inv-loop μ-loop
 returns-3 c =
     let turn = c .before .before .before .before in
@@ -54,12 +48,6 @@ returns-3 c =
     (waits .before .if1 .left) (waits .if2 .left)
     ∙ sym (v .inv)
     ∙ rest-ends (a .port) (a .bytes .now) (a .len) (v .i) (omega (arith, s .pre)) (omega arith) ends)
-
-add-i : tie.Need-add-i Inv-loop μ-loop
-add-i c = search needs
-
-loop-less : tie.Need-loop-less Inv-loop μ-loop
-loop-less c = search needs
 
 loop-again : tie.Need-loop-again Inv-loop μ-loop
 loop-again c =
@@ -86,17 +74,5 @@ returns-4 c =
 pub keeps-spec : {M : Type 1} → statement M
 keeps-spec =
     tie.close
-    (tie.spec
-    Inv-loop
-    μ-loop
-    returns
-    returns-2
-    passed-over-requires
-    loop-holds
-    element-copy-out-ends-line
-    ends-line-requires
-    returns-3
-    add-i
-    loop-less
-    loop-again
-    returns-4)
+    (tie.spec Inv-loop μ-loop returns returns-2 passed-over-requires loop-holds (λ c. search needs)
+    (λ c κs. search needs) returns-3 (λ c. search needs) (λ c. search needs) loop-again returns-4)

@@ -16,21 +16,6 @@ abbrev μ-loop : tie.MeasureT-loop
 loop-holds : tie.Need-loop-holds Inv-loop μ-loop
 loop-holds c = (omega arith, (λ e k h. absurd (omega arith), λ clear. refl))
 
-add-ends-line : tie.Need-add-ends-line Inv-loop μ-loop
-add-ends-line c = search needs
-
-element-copy-out-ends-line : tie.Need-element-copy-out-ends-line Inv-loop μ-loop
-element-copy-out-ends-line c = search needs
-
-ends-line-requires : tie.Need-ends-line-requires Inv-loop μ-loop
-ends-line-requires c κs = search needs
-
-add-k : tie.Need-add-k Inv-loop μ-loop
-add-k c = search needs
-
-loop-less : tie.Need-loop-less Inv-loop μ-loop
-loop-less c = search needs
-
 loop-again : tie.Need-loop-again Inv-loop μ-loop
 loop-again c =
     let turn = c .before .before .before in
@@ -47,14 +32,5 @@ returns c = let e : c .before .loop .k ≡ 16 = omega arith in rw e at (c .befor
 pub sixteen-end-none-spec : {M : Type 1} → statement M
 sixteen-end-none-spec =
     tie.close
-    (tie.spec
-    Inv-loop
-    μ-loop
-    loop-holds
-    add-ends-line
-    element-copy-out-ends-line
-    ends-line-requires
-    add-k
-    loop-less
-    loop-again
-    returns)
+    (tie.spec Inv-loop μ-loop loop-holds (λ c. search needs) (λ c. search needs) (λ c κs. search needs)
+    (λ c. search needs) (λ c. search needs) loop-again returns)

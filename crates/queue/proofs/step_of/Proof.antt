@@ -5,12 +5,6 @@ use Rattle.queue.specs.Queue.{fedOf, droppedOf}
 use Rattle.queue.proofs.step_of.Statement.{statement}
 use Rattle.queue.proofs.step_of.Tie as tie
 
-ends-line-requires : tie.Need-ends-line-requires
-ends-line-requires c κs = search needs
-
-is-marked-requires : tie.Need-is-marked-requires
-is-marked-requires c κs = search needs
-
 returns : tie.Need-returns
 unfolding fedOf droppedOf
 returns c =
@@ -28,9 +22,6 @@ returns-2 c =
       fed = λ bytes. rw (drops .if1 .left, sym (drops .before .before .ends-line .ensures) ∙ c .if2 .taken);
       run = λ bytes. refl;
     }
-
-added-requires : tie.Need-added-requires
-added-requires c κs = search needs
 
 returns-3 : tie.Need-returns-3
 unfolding fedOf
@@ -51,4 +42,4 @@ returns-3 c =
 pub step-of-spec : {M : Type 1} → statement M
 step-of-spec =
     tie.close
-    (tie.spec ends-line-requires is-marked-requires returns returns-2 added-requires returns-3)
+    (tie.spec (λ c κs. search needs) (λ c κs. search needs) returns returns-2 (λ c κs. search needs) returns-3)

@@ -4,9 +4,6 @@ use borrow.Author.Tests.{lt-ltb, le-ltb}
 use Rattle.queue.proofs.store.Statement.{statement}
 use Rattle.queue.proofs.store.Tie as tie
 
-element-write-bytes : tie.Need-element-write-bytes
-element-write-bytes c = search needs
-
 returns : tie.Need-returns
 returns c = rw (c .before .if1 .taken, lt-ltb _ _ (c .if2 .taken))
 
@@ -17,4 +14,4 @@ returns-3 : tie.Need-returns-3
 returns-3 c = rw (c .if1 .left)
 
 pub store-spec : {M : Type 1} → statement M
-store-spec = tie.close (tie.spec element-write-bytes returns returns-2 returns-3)
+store-spec = tie.close (tie.spec (λ c. search needs) returns returns-2 returns-3)

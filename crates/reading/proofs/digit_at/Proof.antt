@@ -4,14 +4,8 @@ use borrow.Author.Needs.{needs}
 use Rattle.reading.proofs.digit_at.Statement.{statement}
 use Rattle.reading.proofs.digit_at.Tie as tie
 
-shared-slice-read-result : tie.Need-shared-slice-read-result
-shared-slice-read-result c = search needs
-
 returns : tie.Need-returns
 returns c = let a = c .before .before .args in in-front (a .front .now) (a .back .now) (a .index) (c .before .if1 .taken)
-
-shared-slice-read-result-2 : tie.Need-shared-slice-read-result-2
-shared-slice-read-result-2 c = search needs
 
 returns-2 : tie.Need-returns-2
 returns-2 c = let a = c .before .before .before .args in in-back (a .front .now) (a .back .now) (a .index) (c .before .before .if1 .left) (c .before .if2 .taken)
@@ -20,6 +14,4 @@ returns-3 : tie.Need-returns-3
 returns-3 c = let a = c .before .before .args in after-both (a .front .now) (a .back .now) (a .index) (c .before .if1 .left) (c .if2 .left)
 
 pub digit-at-spec : {M : Type 1} → statement M
-digit-at-spec =
-    tie.close
-    (tie.spec shared-slice-read-result returns shared-slice-read-result-2 returns-2 returns-3)
+digit-at-spec = tie.close (tie.spec (λ c. search needs) returns (λ c. search needs) returns-2 returns-3)

@@ -7,20 +7,11 @@ use borrow.Author.Needs.{needs}
 use Rattle.reading.proofs.read_digits.Statement.{statement}
 use Rattle.reading.proofs.read_digits.Tie as tie
 
-add-n : tie.Need-add-n
-add-n c = search needs
-
 returns : tie.Need-returns
 returns c = let a = c .before .before .before .args in digits-few (a .negative) (a .front .now) (a .back .now) (a .up) (a .down) (c .if1 .taken)
 
 returns-2 : tie.Need-returns-2
 returns-2 c = let a = c .before .before .before .before .args in digits-many (a .negative) (a .front .now) (a .back .now) (a .up) (a .down) (c .before .if1 .left) (c .if2 .taken)
-
-all-digits-requires : tie.Need-all-digits-requires
-all-digits-requires c κs = search needs
-
-all-digits-requires-2 : tie.Need-all-digits-requires-2
-all-digits-requires-2 c κs = search needs
 
 scaled-requires : tie.Need-scaled-requires
 scaled-requires c κs = let a = c .before .before .before .before .before .before .before .before .args in (digits-both (a .front .now) (a .back .now) (sym (c .before .before .before .all-digits .ensures) ∙ c .before .before .if3 .taken) (sym (c .before .all-digits2 .ensures) ∙ c .if4 .taken), c .before .before .before .before .if2 .left, c .before .before .before .before .before .before .before .before .pre)
@@ -44,13 +35,5 @@ returns-5 c = let a = c .before .before .before .before .before .before .args in
 pub read-digits-spec : {M : Type 1} → statement M
 read-digits-spec =
     tie.close
-    (tie.spec
-    add-n
-    returns
-    returns-2
-    all-digits-requires
-    all-digits-requires-2
-    scaled-requires
-    returns-3
-    returns-4
-    returns-5)
+    (tie.spec (λ c. search needs) returns returns-2 (λ c κs. search needs) (λ c κs. search needs) scaled-requires
+    returns-3 returns-4 returns-5)

@@ -9,50 +9,11 @@ use Rattle.reading.proofs.read_exponent.Tie as tie
 returns : tie.Need-returns
 returns c = (exponent-none (c .before .before .args .x .now) (c .if1 .taken), tt)
 
-shared-slice-read-b : tie.Need-shared-slice-read-b
-shared-slice-read-b c = search needs
-
-sub-short-number : tie.Need-sub-short-number
-sub-short-number c = search needs
-
-part-short-number-start : tie.Need-part-short-number-start
-part-short-number-start c = search needs
-
-part-short-number-end : tie.Need-part-short-number-end
-part-short-number-end c = search needs
-
-short-number-requires : tie.Need-short-number-requires
-short-number-requires c κs = search needs
-
-lowered-requires : tie.Need-lowered-requires
-lowered-requires c κs = search needs
-
 returns-2 : tie.Need-returns-2
 returns-2 c = (c .lowered .ensures ∙ rw (c .before .short-number .ensures .0, rest-from (c .before .before .before .before .before .before .before .args .x .now) 1) (exponent-minus (c .before .before .before .before .before .before .before .args .x .now) (c .before .before .before .before .before .if1 .left) (c .before .before .before .if2 .taken)), rw (c .lowered .ensures) (lowered-bounded (c .before .short-number .result) (c .before .short-number .ensures .1)))
 
-sub-short-number-2 : tie.Need-sub-short-number-2
-sub-short-number-2 c = search needs
-
-part-short-number-start-2 : tie.Need-part-short-number-start-2
-part-short-number-start-2 c = search needs
-
-part-short-number-end-2 : tie.Need-part-short-number-end-2
-part-short-number-end-2 c = search needs
-
-short-number-requires-2 : tie.Need-short-number-requires-2
-short-number-requires-2 c κs = search needs
-
-raised-requires : tie.Need-raised-requires
-raised-requires c κs = search needs
-
 returns-3 : tie.Need-returns-3
 returns-3 c = (c .raised .ensures ∙ rw (c .before .short-number2 .ensures .0, rest-from (c .before .before .before .before .before .before .before .before .args .x .now) 1) (exponent-plus (c .before .before .before .before .before .before .before .before .args .x .now) (c .before .before .before .before .before .before .if1 .left) (c .before .before .before .before .if2 .left) (c .before .before .before .if3 .taken)), rw (c .raised .ensures) (raised-bounded (c .before .short-number2 .result) (c .before .short-number2 .ensures .1)))
-
-short-number-requires-3 : tie.Need-short-number-requires-3
-short-number-requires-3 c κs = search needs
-
-raised-requires-2 : tie.Need-raised-requires-2
-raised-requires-2 c κs = search needs
 
 returns-4 : tie.Need-returns-4
 returns-4 c = (c .raised2 .ensures ∙ rw (c .before .short-number3 .ensures .0) (exponent-plain (c .before .before .before .before .before .before .before .args .x .now) (c .before .before .before .before .before .if1 .left) (c .before .before .before .if2 .left) (c .before .before .if3 .left)), rw (c .raised2 .ensures) (raised-bounded (c .before .short-number3 .result) (c .before .short-number3 .ensures .1)))
@@ -60,21 +21,6 @@ returns-4 c = (c .raised2 .ensures ∙ rw (c .before .short-number3 .ensures .0)
 pub read-exponent-spec : {M : Type 1} → statement M
 read-exponent-spec =
     tie.close
-    (tie.spec
-    returns
-    shared-slice-read-b
-    sub-short-number
-    part-short-number-start
-    part-short-number-end
-    short-number-requires
-    lowered-requires
-    returns-2
-    sub-short-number-2
-    part-short-number-start-2
-    part-short-number-end-2
-    short-number-requires-2
-    raised-requires
-    returns-3
-    short-number-requires-3
-    raised-requires-2
-    returns-4)
+    (tie.spec returns (λ c. search needs) (λ c. search needs) (λ c. search needs) (λ c. search needs)
+    (λ c κs. search needs) (λ c κs. search needs) returns-2 (λ c. search needs) (λ c. search needs) (λ c. search needs)
+    (λ c κs. search needs) (λ c κs. search needs) returns-3 (λ c κs. search needs) (λ c κs. search needs) returns-4)

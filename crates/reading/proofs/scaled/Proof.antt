@@ -8,23 +8,8 @@ use borrow.Author.Needs.{needs}
 use Rattle.reading.proofs.scaled.Statement.{statement}
 use Rattle.reading.proofs.scaled.Tie as tie
 
-add-point : tie.Need-add-point
-add-point c = search needs
-
-zero-from-requires : tie.Need-zero-from-requires
-zero-from-requires c κs = search needs
-
 returns : tie.Need-returns
 returns c = let a = c .before .before .before .before .args in rw (c .zero-from .ensures) (sym (scaled-beyond (a .negative) (a .front .now) (a .back .now) (a .up) (a .down) (c .before .before .before .before .pre .0) (c .before .if1 .taken)))
-
-digit-at-requires : tie.Need-digit-at-requires
-digit-at-requires c κs = search needs
-
-whole-part-requires : tie.Need-whole-part-requires
-whole-part-requires c κs = search needs
-
-zero-from-requires-2 : tie.Need-zero-from-requires-2
-zero-from-requires-2 c κs = search needs
 
 returns-2 : tie.Need-returns-2
 returns-2 c = let a = c .before .before .before .before .before .before .args in
@@ -34,11 +19,5 @@ returns-2 c = let a = c .before .before .before .before .before .before .args in
 pub scaled-spec : {M : Type 1} → statement M
 scaled-spec =
     tie.close
-    (tie.spec
-    add-point
-    zero-from-requires
-    returns
-    digit-at-requires
-    whole-part-requires
-    zero-from-requires-2
-    returns-2)
+    (tie.spec (λ c. search needs) (λ c κs. search needs) returns (λ c κs. search needs) (λ c κs. search needs)
+    (λ c κs. search needs) returns-2)

@@ -13,12 +13,6 @@ returns c = (short-few (c .before .before .args .t .now) (c .if1 .taken), tt)
 returns-2 : tie.Need-returns-2
 returns-2 c = (short-many (c .before .before .before .args .t .now) (c .before .if1 .left) (c .if2 .taken), tt)
 
-all-digits-requires : tie.Need-all-digits-requires
-all-digits-requires c κs = search needs
-
-shared-slice-read-first : tie.Need-shared-slice-read-first
-shared-slice-read-first c = search needs
-
 sub-first : tie.Need-sub-first
 sub-first c = omega (arith, digit-at-place (c .before .before .before .before .before .before .args .t .now) 0 (sym (c .before .before .all-digits .ensures) ∙ c .before .if3 .taken) (c .before .before .before .before .if1 .left))
 
@@ -30,9 +24,6 @@ returns-3 c = (short-one (c .before .before .before .before .before .before .bef
 
 mul-t10 : tie.Need-mul-t10
 mul-t10 c = omega (arith, digit-at-place (c .before .before .before .before .before .before .before .args .t .now) 0 (sym (c .before .before .before .all-digits .ensures) ∙ c .before .before .if3 .taken) (c .before .before .before .before .before .if1 .left))
-
-shared-slice-read-t7 : tie.Need-shared-slice-read-t7
-shared-slice-read-t7 c = search needs
 
 sub-t8 : tie.Need-sub-t8
 sub-t8 c = omega (arith, digit-at-place (c .before .before .before .before .before .before .before .before .args .t .now) 1 (sym (c .before .before .before .before .all-digits .ensures) ∙ c .before .before .before .if3 .taken) (omega arith))
@@ -52,18 +43,5 @@ returns-5 c = (short-wrong (c .before .before .before .before .before .args .t .
 pub short-number-spec : {M : Type 1} → statement M
 short-number-spec =
     tie.close
-    (tie.spec
-    returns
-    returns-2
-    all-digits-requires
-    shared-slice-read-first
-    sub-first
-    cast-first
-    returns-3
-    mul-t10
-    shared-slice-read-t7
-    sub-t8
-    cast-t12
-    add-t13
-    returns-4
-    returns-5)
+    (tie.spec returns returns-2 (λ c κs. search needs) (λ c. search needs) sub-first cast-first returns-3 mul-t10
+    (λ c. search needs) sub-t8 cast-t12 add-t13 returns-4 returns-5)

@@ -36,12 +36,6 @@ grown-requires c κs =
       omega (arith, c .digit-at .ensures, digit-range (a .front .now ++ a .back .now) (c .before .before .before .before .before .pre) (c .before .before .loop .index)),
     )
 
-add-index : tie.Need-add-index Inv-loop μ-loop
-add-index c = omega arith
-
-loop-less : tie.Need-loop-less Inv-loop μ-loop
-loop-less c = omega arith
-
 loop-again : tie.Need-loop-again Inv-loop μ-loop
 loop-again c =
     let a = c .before .before .before .before .before .before .args in
@@ -55,14 +49,5 @@ returns c =
 pub whole-part-spec : {M : Type 1} → statement M
 whole-part-spec =
     tie.close
-    (tie.spec
-    Inv-loop
-    μ-loop
-    loop-holds
-    digit-at-requires
-    sub-grown
-    grown-requires
-    add-index
-    loop-less
-    loop-again
-    returns)
+    (tie.spec Inv-loop μ-loop loop-holds digit-at-requires sub-grown grown-requires (λ c. omega arith)
+    (λ c. omega arith) loop-again returns)

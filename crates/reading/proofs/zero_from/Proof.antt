@@ -15,20 +15,11 @@ Inv-loop front back from n index₀ index = allZero (drop from (front ++ back)) 
 abbrev μ-loop : tie.MeasureT-loop
 μ-loop front back from n index₀ index = n - index
 
-add-n : tie.Need-add-n Inv-loop μ-loop
-add-n c = omega arith
-
 loop-holds : tie.Need-loop-holds Inv-loop μ-loop
 loop-holds c = refl
 
 digit-at-requires : tie.Need-digit-at-requires Inv-loop μ-loop
 digit-at-requires c κs = tt
-
-add-index : tie.Need-add-index Inv-loop μ-loop
-add-index c = omega arith
-
-loop-less : tie.Need-loop-less Inv-loop μ-loop
-loop-less c = omega arith
 
 loop-again : tie.Need-loop-again Inv-loop μ-loop
 loop-again c =
@@ -58,14 +49,5 @@ returns-2 c =
 pub zero-from-spec : {M : Type 1} → statement M
 zero-from-spec =
     tie.close
-    (tie.spec
-    Inv-loop
-    μ-loop
-    add-n
-    loop-holds
-    digit-at-requires
-    add-index
-    loop-less
-    loop-again
-    returns
-    returns-2)
+    (tie.spec Inv-loop μ-loop (λ c. omega arith) loop-holds digit-at-requires (λ c. omega arith) (λ c. omega arith)
+    loop-again returns returns-2)

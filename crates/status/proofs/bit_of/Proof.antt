@@ -6,12 +6,6 @@ use Rattle.status.proofs.Bits.{past}
 use Rattle.status.proofs.bit_of.Statement.{statement}
 use Rattle.status.proofs.bit_of.Tie as tie
 
-cast-result : tie.Need-cast-result
-cast-result c = search needs
-
-shr-result : tie.Need-shr-result
-shr-result c = search needs
-
 returns : tie.Need-returns
 unfolding bitOf
 returns c = refl
@@ -20,4 +14,4 @@ returns-2 : tie.Need-returns-2
 returns-2 c = sym (past (c .before .args .x) (c .before .args .bit) (search needs) (search needs))
 
 pub bit-of-spec : {M : Type 1} → statement M
-bit-of-spec = tie.close (tie.spec cast-result shr-result returns returns-2)
+bit-of-spec = tie.close (tie.spec (λ c. search needs) (λ c. search needs) returns returns-2)

@@ -4,12 +4,9 @@ use Rattle.status.specs.Status.{clearedOf}
 use Rattle.status.proofs.cleared.Statement.{statement}
 use Rattle.status.proofs.cleared.Tie as tie
 
-with-register-requires : tie.Need-with-register-requires
-with-register-requires c κs = search needs
-
 returns : tie.Need-returns
 unfolding clearedOf
 returns c = c .with-register .ensures
 
 pub cleared-spec : {M : Type 1} → statement M
-cleared-spec = tie.close (tie.spec with-register-requires returns)
+cleared-spec = tie.close (tie.spec (λ c κs. search needs) returns)

@@ -5,12 +5,6 @@ use Rattle.status.proofs.Bits.{weight-fits}
 use Rattle.status.proofs.flag_of.Statement.{statement}
 use Rattle.status.proofs.flag_of.Tie as tie
 
-cast-result : tie.Need-cast-result
-cast-result c = search needs
-
-shl-result : tie.Need-shl-result
-shl-result c = search needs
-
 returns : tie.Need-returns
 unfolding flag
 returns c = rw (c .if1 .taken) (weight-fits (c .before .args .bit) (search needs))
@@ -20,4 +14,4 @@ unfolding flag
 returns-2 c = rw (c .if1 .left)
 
 pub flag-of-spec : {M : Type 1} → statement M
-flag-of-spec = tie.close (tie.spec cast-result shl-result returns returns-2)
+flag-of-spec = tie.close (tie.spec (λ c. search needs) (λ c. search needs) returns returns-2)

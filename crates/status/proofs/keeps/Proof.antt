@@ -5,29 +5,17 @@ use Rattle.status.specs.Status.{keepsOf}
 use Rattle.status.proofs.keeps.Statement.{statement}
 use Rattle.status.proofs.keeps.Tie as tie
 
-common-requires : tie.Need-common-requires
-common-requires c κs = search needs
-
 returns : tie.Need-returns
 unfolding keepsOf
 returns c = rw (sym (c .before .common .ensures) ∙ c .if1 .taken)
-
-common-requires-2 : tie.Need-common-requires-2
-common-requires-2 c κs = search needs
 
 returns-2 : tie.Need-returns-2
 unfolding keepsOf
 returns-2 c = rw (sym (c .before .before .before .common .ensures) ∙ c .before .before .if1 .left, sym (c .before .common2 .ensures) ∙ c .if2 .taken)
 
-common-requires-3 : tie.Need-common-requires-3
-common-requires-3 c κs = search needs
-
 returns-3 : tie.Need-returns-3
 unfolding keepsOf
 returns-3 c = rw (sym (c .before .before .before .before .before .common .ensures) ∙ c .before .before .before .before .if1 .left, sym (c .before .before .before .common2 .ensures) ∙ c .before .before .if2 .left, sym (c .before .common3 .ensures) ∙ c .if3 .taken)
-
-common-requires-4 : tie.Need-common-requires-4
-common-requires-4 c κs = search needs
 
 returns-4 : tie.Need-returns-4
 unfolding keepsOf
@@ -40,13 +28,5 @@ returns-5 c = rw (sym (c .before .before .before .before .before .before .before
 pub keeps-spec : {M : Type 1} → statement M
 keeps-spec =
     tie.close
-    (tie.spec
-    common-requires
-    returns
-    common-requires-2
-    returns-2
-    common-requires-3
-    returns-3
-    common-requires-4
-    returns-4
-    returns-5)
+    (tie.spec (λ c κs. search needs) returns (λ c κs. search needs) returns-2 (λ c κs. search needs) returns-3
+    (λ c κs. search needs) returns-4 returns-5)

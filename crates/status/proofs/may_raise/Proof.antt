@@ -5,12 +5,6 @@ use Rattle.status.specs.Status.{mayRaise}
 use Rattle.status.proofs.may_raise.Statement.{statement}
 use Rattle.status.proofs.may_raise.Tie as tie
 
-only-of-requires : tie.Need-only-of-requires
-only-of-requires c κs = search needs
-
-only-of-requires-2 : tie.Need-only-of-requires-2
-only-of-requires-2 c κs = search needs
-
 returns : tie.Need-returns
 unfolding mayRaise
 returns c = rw (sym (c .before .before .only-of .ensures) ∙ c .before .if1 .taken) (c .only-of2 .ensures)
@@ -20,4 +14,4 @@ unfolding mayRaise
 returns-2 c = rw (sym (c .before .only-of .ensures) ∙ c .if1 .left)
 
 pub may-raise-spec : {M : Type 1} → statement M
-may-raise-spec = tie.close (tie.spec only-of-requires only-of-requires-2 returns returns-2)
+may-raise-spec = tie.close (tie.spec (λ c κs. search needs) (λ c κs. search needs) returns returns-2)

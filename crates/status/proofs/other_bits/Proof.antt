@@ -33,33 +33,6 @@ module _ (c : tie.After-flag-of6) where
         known _ _ _ (c .flag-of6 .ensures),
       )
 
-flag-of-requires : tie.Need-flag-of-requires
-flag-of-requires c κs = search needs
-
-flag-of-requires-2 : tie.Need-flag-of-requires-2
-flag-of-requires-2 c κs = search needs
-
-common-requires : tie.Need-common-requires
-common-requires c κs = search needs
-
-flag-of-requires-3 : tie.Need-flag-of-requires-3
-flag-of-requires-3 c κs = search needs
-
-common-requires-2 : tie.Need-common-requires-2
-common-requires-2 c κs = search needs
-
-flag-of-requires-4 : tie.Need-flag-of-requires-4
-flag-of-requires-4 c κs = search needs
-
-flag-of-requires-5 : tie.Need-flag-of-requires-5
-flag-of-requires-5 c κs = search needs
-
-common-requires-3 : tie.Need-common-requires-3
-common-requires-3 c κs = search needs
-
-flag-of-requires-6 : tie.Need-flag-of-requires-6
-flag-of-requires-6 c κs = search needs
-
 add-result : tie.Need-add-result
 add-result c = omega (arith, sum-fits c)
 
@@ -94,19 +67,6 @@ returns c =
 pub other-bits-spec : {M : Type 1} → statement M
 other-bits-spec =
     tie.close
-    (tie.spec
-    flag-of-requires
-    flag-of-requires-2
-    common-requires
-    flag-of-requires-3
-    common-requires-2
-    flag-of-requires-4
-    flag-of-requires-5
-    common-requires-3
-    flag-of-requires-6
-    add-result
-    add-result-2
-    add-result-3
-    add-result-4
-    add-result-5
-    returns)
+    (tie.spec (λ c κs. search needs) (λ c κs. search needs) (λ c κs. search needs) (λ c κs. search needs)
+    (λ c κs. search needs) (λ c κs. search needs) (λ c κs. search needs) (λ c κs. search needs) (λ c κs. search needs)
+    add-result add-result-2 add-result-3 add-result-4 add-result-5 returns)

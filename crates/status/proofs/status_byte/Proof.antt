@@ -6,15 +6,6 @@ use Rattle.status.proofs.Flags.{flag-le, other-lt}
 use Rattle.status.proofs.status_byte.Statement.{statement}
 use Rattle.status.proofs.status_byte.Tie as tie
 
-other-bits-requires : tie.Need-other-bits-requires
-other-bits-requires c κs = search needs
-
-common-requires : tie.Need-common-requires
-common-requires c κs = search needs
-
-flag-of-requires : tie.Need-flag-of-requires
-flag-of-requires c κs = search needs
-
 add-result : tie.Need-add-result
 add-result c =
     let other = other-lt (c .before .before .before .args .r) (c .before .before .before .args .e) (c .before .before .before .args .p) in
@@ -27,4 +18,5 @@ returns c = rw (← c .before .before .other-bits .ensures, ← c .before .commo
 
 pub status-byte-spec : {M : Type 1} → statement M
 status-byte-spec =
-    tie.close (tie.spec other-bits-requires common-requires flag-of-requires add-result returns)
+    tie.close
+    (tie.spec (λ c κs. search needs) (λ c κs. search needs) (λ c κs. search needs) add-result returns)

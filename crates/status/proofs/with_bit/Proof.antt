@@ -6,18 +6,9 @@ use Rattle.status.proofs.Bits.{weight-fits}
 use Rattle.status.proofs.with_bit.Statement.{statement}
 use Rattle.status.proofs.with_bit.Tie as tie
 
-without-bit-requires : tie.Need-without-bit-requires
-without-bit-requires c κs = search needs
-
 returns : tie.Need-returns
 unfolding withBit
 returns c = rw (lt-ltb _ _ (c .before .before .if1 .taken), eq-eqb _ _ (c .before .if2 .taken)) (c .without-bit .ensures)
-
-cast-result : tie.Need-cast-result
-cast-result c = search needs
-
-shl-result : tie.Need-shl-result
-shl-result c = search needs
 
 returns-2 : tie.Need-returns-2
 unfolding withBit
@@ -29,4 +20,5 @@ returns-3 c = rw (le-ltb _ _ (c .if1 .left))
 
 pub with-bit-spec : {M : Type 1} → statement M
 with-bit-spec =
-    tie.close (tie.spec without-bit-requires returns cast-result shl-result returns-2 returns-3)
+    tie.close
+    (tie.spec (λ c κs. search needs) returns (λ c. search needs) (λ c. search needs) returns-2 returns-3)

@@ -4,15 +4,9 @@ use Rattle.status.specs.Status.{withEnable}
 use Rattle.status.proofs.with_enable.Statement.{statement}
 use Rattle.status.proofs.with_enable.Tie as tie
 
-cast-byte : tie.Need-cast-byte
-cast-byte c = search needs
-
-with-enable-byte-requires : tie.Need-with-enable-byte-requires
-with-enable-byte-requires c κs = search needs
-
 returns : tie.Need-returns
 unfolding withEnable
 returns c = c .with-enable-byte .ensures
 
 pub with-enable-spec : {M : Type 1} → statement M
-with-enable-spec = tie.close (tie.spec cast-byte with-enable-byte-requires returns)
+with-enable-spec = tie.close (tie.spec (λ c. search needs) (λ c κs. search needs) returns)

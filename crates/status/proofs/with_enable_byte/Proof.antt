@@ -4,21 +4,6 @@ use Rattle.status.specs.Status.{withEnableByte}
 use Rattle.status.proofs.with_enable_byte.Statement.{statement}
 use Rattle.status.proofs.with_enable_byte.Tie as tie
 
-enum-told : tie.Need-enum-told
-enum-told c = search needs
-
-enum-told-2 : tie.Need-enum-told-2
-enum-told-2 c = search needs
-
-without-bit-requires : tie.Need-without-bit-requires
-without-bit-requires c κs = search needs
-
-enum-told-3 : tie.Need-enum-told-3
-enum-told-3 c = search needs
-
-enum-told-4 : tie.Need-enum-told-4
-enum-told-4 c = search needs
-
 returns : tie.Need-returns
 unfolding withEnableByte
 returns c = rw (c .enum-told .given .1)
@@ -38,13 +23,5 @@ returns-4 c = rw (c .enum-told4 .given .1)
 pub with-enable-byte-spec : {M : Type 1} → statement M
 with-enable-byte-spec =
     tie.close
-    (tie.spec
-    enum-told
-    enum-told-2
-    without-bit-requires
-    enum-told-3
-    enum-told-4
-    returns
-    returns-2
-    returns-3
-    returns-4)
+    (tie.spec (λ c. search needs) (λ c. search needs) (λ c κs. search needs) (λ c. search needs) (λ c. search needs)
+    returns returns-2 returns-3 returns-4)

@@ -6,15 +6,6 @@ use Rattle.status.proofs.Bits.{past, weight-le}
 use Rattle.status.proofs.without_bit.Statement.{statement}
 use Rattle.status.proofs.without_bit.Tie as tie
 
-bit-of-requires : tie.Need-bit-of-requires
-bit-of-requires c κs = search needs
-
-cast-result : tie.Need-cast-result
-cast-result c = search needs
-
-shl-result : tie.Need-shl-result
-shl-result c = search needs
-
 sub-result : tie.Need-sub-result
 sub-result c = rw (c .bit-of .ensures) (omega (arith, weight-le (c .before .before .args .x) (c .before .before .args .bit)))
 
@@ -28,4 +19,5 @@ returns-2 c = rw (past (c .before .args .x) (c .before .args .bit) (search needs
 
 pub without-bit-spec : {M : Type 1} → statement M
 without-bit-spec =
-    tie.close (tie.spec bit-of-requires cast-result shl-result sub-result returns returns-2)
+    tie.close
+    (tie.spec (λ c κs. search needs) (λ c. search needs) (λ c. search needs) sub-result returns returns-2)

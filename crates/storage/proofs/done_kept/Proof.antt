@@ -5,12 +5,6 @@ use Rattle.storage.specs.Storage.{doneKept}
 use Rattle.storage.proofs.done_kept.Statement.{statement}
 use Rattle.storage.proofs.done_kept.Tie as tie
 
-is-done-requires : tie.Need-is-done-requires
-is-done-requires c κs = search needs
-
-full-in-one-shot-requires : tie.Need-full-in-one-shot-requires
-full-in-one-shot-requires c κs = search needs
-
 returns : tie.Need-returns
 unfolding doneKept
 returns c = rw (c .before .before .before .is-done .ensures, sym (c .before .before .full-in-one-shot .ensures) ∙ c .before .if1 .taken)
@@ -20,4 +14,4 @@ unfolding doneKept
 returns-2 c = rw (c .before .before .is-done .ensures, sym (c .before .full-in-one-shot .ensures) ∙ c .if1 .left)
 
 pub done-kept-spec : {M : Type 1} → statement M
-done-kept-spec = tie.close (tie.spec is-done-requires full-in-one-shot-requires returns returns-2)
+done-kept-spec = tie.close (tie.spec (λ c κs. search needs) (λ c κs. search needs) returns returns-2)

@@ -5,9 +5,6 @@ use Rattle.storage.specs.Storage.{heldAfter}
 use Rattle.storage.proofs.held_after.Statement.{statement}
 use Rattle.storage.proofs.held_after.Tie as tie
 
-add-result : tie.Need-add-result
-add-result c = search needs
-
 returns : tie.Need-returns
 unfolding heldAfter
 returns c = omega arith
@@ -17,4 +14,4 @@ unfolding heldAfter
 returns-2 c = omega arith
 
 pub held-after-spec : {M : Type 1} → statement M
-held-after-spec = tie.close (tie.spec add-result returns returns-2)
+held-after-spec = tie.close (tie.spec (λ c. search needs) returns returns-2)

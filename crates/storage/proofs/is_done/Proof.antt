@@ -4,12 +4,9 @@ use Rattle.storage.specs.Storage.{isDone}
 use Rattle.storage.proofs.is_done.Statement.{statement}
 use Rattle.storage.proofs.is_done.Tie as tie
 
-number-of-requires : tie.Need-number-of-requires
-number-of-requires c κs = search needs
-
 returns : tie.Need-returns
 unfolding isDone
 returns c = rw (c .number-of .ensures)
 
 pub is-done-spec : {M : Type 1} → statement M
-is-done-spec = tie.close (tie.spec number-of-requires returns)
+is-done-spec = tie.close (tie.spec (λ c κs. search needs) returns)

@@ -4,12 +4,9 @@ use Rattle.storage.specs.Storage.{isReset}
 use Rattle.storage.proofs.is_reset.Statement.{statement}
 use Rattle.storage.proofs.is_reset.Tie as tie
 
-number-of-requires : tie.Need-number-of-requires
-number-of-requires c κs = search needs
-
 returns : tie.Need-returns
 unfolding isReset
 returns c = rw (c .number-of .ensures)
 
 pub is-reset-spec : {M : Type 1} → statement M
-is-reset-spec = tie.close (tie.spec number-of-requires returns)
+is-reset-spec = tie.close (tie.spec (λ c κs. search needs) returns)

@@ -4,12 +4,9 @@ use Rattle.storage.specs.Storage.{isRunning}
 use Rattle.storage.proofs.is_running.Statement.{statement}
 use Rattle.storage.proofs.is_running.Tie as tie
 
-number-of-requires : tie.Need-number-of-requires
-number-of-requires c κs = search needs
-
 returns : tie.Need-returns
 unfolding isRunning
 returns c = rw (c .number-of .ensures)
 
 pub is-running-spec : {M : Type 1} → statement M
-is-running-spec = tie.close (tie.spec number-of-requires returns)
+is-running-spec = tie.close (tie.spec (λ c κs. search needs) returns)

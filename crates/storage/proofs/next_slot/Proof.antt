@@ -5,12 +5,6 @@ use Rattle.storage.specs.Storage.{nextSlot}
 use Rattle.storage.proofs.next_slot.Statement.{statement}
 use Rattle.storage.proofs.next_slot.Tie as tie
 
-add-after : tie.Need-add-after
-add-after c = search needs
-
-cast-result : tie.Need-cast-result
-cast-result c = search needs
-
 returns : tie.Need-returns
 unfolding nextSlot
 returns c = rw (lt-ltb _ _ (c .if1 .taken))
@@ -20,4 +14,4 @@ unfolding nextSlot
 returns-2 c = rw (le-ltb _ _ (c .if1 .left))
 
 pub next-slot-spec : {M : Type 1} → statement M
-next-slot-spec = tie.close (tie.spec add-after cast-result returns returns-2)
+next-slot-spec = tie.close (tie.spec (λ c. search needs) (λ c. search needs) returns returns-2)

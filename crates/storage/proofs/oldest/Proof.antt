@@ -5,18 +5,6 @@ use Rattle.storage.specs.Storage.{oldestOf}
 use Rattle.storage.proofs.oldest.Statement.{statement}
 use Rattle.storage.proofs.oldest.Tie as tie
 
-cast-next : tie.Need-cast-next
-cast-next c = search needs
-
-sub-result : tie.Need-sub-result
-sub-result c = search needs
-
-cast-result : tie.Need-cast-result
-cast-result c = search needs
-
-add-result : tie.Need-add-result
-add-result c = search needs
-
 returns : tie.Need-returns
 unfolding oldestOf
 returns c = omega arith
@@ -26,4 +14,6 @@ unfolding oldestOf
 returns-2 c = omega arith
 
 pub oldest-spec : {M : Type 1} → statement M
-oldest-spec = tie.close (tie.spec cast-next sub-result cast-result add-result returns returns-2)
+oldest-spec =
+    tie.close
+    (tie.spec (λ c. search needs) (λ c. search needs) (λ c. search needs) (λ c. search needs) returns returns-2)

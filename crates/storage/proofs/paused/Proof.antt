@@ -5,9 +5,6 @@ use Rattle.storage.specs.Storage.{pausedOf}
 use Rattle.storage.proofs.paused.Statement.{statement}
 use Rattle.storage.proofs.paused.Tie as tie
 
-is-running-requires : tie.Need-is-running-requires
-is-running-requires c κs = search needs
-
 returns : tie.Need-returns
 unfolding pausedOf
 returns c = rw (sym (c .before .is-running .ensures) ∙ c .if1 .taken)
@@ -17,4 +14,4 @@ unfolding pausedOf
 returns-2 c = rw (sym (c .before .is-running .ensures) ∙ c .if1 .left)
 
 pub paused-spec : {M : Type 1} → statement M
-paused-spec = tie.close (tie.spec is-running-requires returns returns-2)
+paused-spec = tie.close (tie.spec (λ c κs. search needs) returns returns-2)

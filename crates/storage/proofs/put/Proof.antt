@@ -5,20 +5,10 @@ use lib.Seq.{set-out}
 use Rattle.storage.proofs.put.Statement.{statement}
 use Rattle.storage.proofs.put.Tie as tie
 
-mul-trace : tie.Need-mul-trace
-mul-trace c = search needs
-
-slice-write-trace : tie.Need-slice-write-trace
-slice-write-trace c = search needs
-
-same-length : tie.Need-same-length
-same-length c = search needs
-
-returns : tie.Need-returns
-returns c = search needs
-
 returns-2 : tie.Need-returns-2
 returns-2 c = sym (set-out _ _ _ (c .if1 .left))
 
 pub put-spec : {M : Type 1} → statement M
-put-spec = tie.close (tie.spec mul-trace slice-write-trace same-length returns returns-2)
+put-spec =
+    tie.close
+    (tie.spec (λ c. search needs) (λ c. search needs) (λ c. search needs) (λ c. search needs) returns-2)

@@ -5,9 +5,6 @@ use Rattle.storage.specs.Storage.{readiedOf}
 use Rattle.storage.proofs.readied.Statement.{statement}
 use Rattle.storage.proofs.readied.Tie as tie
 
-started-requires : tie.Need-started-requires
-started-requires c κs = search needs
-
 returns : tie.Need-returns
 unfolding readiedOf
 returns c = rw (eq-eqb _ _ (c .before .if1 .taken)) (c .started .ensures)
@@ -17,4 +14,4 @@ unfolding readiedOf
 returns-2 c = rw (ne-eqb _ _ (c .if1 .left))
 
 pub readied-spec : {M : Type 1} → statement M
-readied-spec = tie.close (tie.spec started-requires returns returns-2)
+readied-spec = tie.close (tie.spec (λ c κs. search needs) returns returns-2)

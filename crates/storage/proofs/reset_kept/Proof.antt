@@ -5,9 +5,6 @@ use Rattle.storage.specs.Storage.{resetKept}
 use Rattle.storage.proofs.reset_kept.Statement.{statement}
 use Rattle.storage.proofs.reset_kept.Tie as tie
 
-is-reset-requires : tie.Need-is-reset-requires
-is-reset-requires c κs = search needs
-
 returns : tie.Need-returns
 unfolding resetKept
 returns c = rw (sym (c .before .before .is-reset .ensures) ∙ c .before .if1 .taken)
@@ -17,4 +14,4 @@ unfolding resetKept
 returns-2 c = rw (sym (c .before .is-reset .ensures) ∙ c .if1 .left)
 
 pub reset-kept-spec : {M : Type 1} → statement M
-reset-kept-spec = tie.close (tie.spec is-reset-requires returns returns-2)
+reset-kept-spec = tie.close (tie.spec (λ c κs. search needs) returns returns-2)

@@ -6,12 +6,6 @@ use Rattle.storage.specs.Storage.{tickStores, tickedOf}
 use Rattle.storage.proofs.ticked.Statement.{statement}
 use Rattle.storage.proofs.ticked.Tie as tie
 
-is-running-requires : tie.Need-is-running-requires
-is-running-requires c κs = search needs
-
-stored-requires : tie.Need-stored-requires
-stored-requires c κs = search needs
-
 returns : tie.Need-returns
 unfolding tickStores tickedOf
 returns c = rw (sym (c .before .before .before .before .is-running .ensures) ∙ c .before .before .before .if1 .taken, ne-eqb _ _ (c .before .if2 .taken), c .stored .ensures)
@@ -25,4 +19,4 @@ unfolding tickStores tickedOf
 returns-3 c = rw (sym (c .before .is-running .ensures) ∙ c .if1 .left)
 
 pub ticked-spec : {M : Type 1} → statement M
-ticked-spec = tie.close (tie.spec is-running-requires stored-requires returns returns-2 returns-3)
+ticked-spec = tie.close (tie.spec (λ c κs. search needs) (λ c κs. search needs) returns returns-2 returns-3)

@@ -7,21 +7,9 @@ use Rattle.storage.specs.Storage.{triggerStores, setsRunning, triggeredO
 use Rattle.storage.proofs.triggered.Statement.{statement}
 use Rattle.storage.proofs.triggered.Tie as tie
 
-readied-requires : tie.Need-readied-requires
-readied-requires c κs = search needs
-
-is-running-requires : tie.Need-is-running-requires
-is-running-requires c κs = search needs
-
-stored-requires : tie.Need-stored-requires
-stored-requires c κs = search needs
-
 returns : tie.Need-returns
 unfolding triggerStores setsRunning triggeredOf
 returns c = rw (← c .before .before .before .before .before .readied .ensures, sym (c .before .before .before .before .is-running .ensures) ∙ c .before .before .before .if1 .taken, eq-eqb _ _ (c .before .if2 .taken), or-true, c .stored .ensures)
-
-is-running-requires-2 : tie.Need-is-running-requires-2
-is-running-requires-2 c κs = search needs
 
 returns-2 : tie.Need-returns-2
 unfolding triggerStores setsRunning triggeredOf
@@ -38,12 +26,5 @@ returns-4 c = rw (← c .before .before .readied .ensures, sym (c .before .is-ru
 pub triggered-spec : {M : Type 1} → statement M
 triggered-spec =
     tie.close
-    (tie.spec
-    readied-requires
-    is-running-requires
-    stored-requires
-    returns
-    is-running-requires-2
-    returns-2
-    returns-3
-    returns-4)
+    (tie.spec (λ c κs. search needs) (λ c κs. search needs) (λ c κs. search needs) returns (λ c κs. search needs)
+    returns-2 returns-3 returns-4)

@@ -13,14 +13,8 @@ Inv-loop value count₀ rest₀ count rest = count + places rest ≡ 1 + places 
 abbrev μ-loop : tie.MeasureT-loop
 μ-loop value count₀ rest₀ count rest = rest
 
-loop-holds : tie.Need-loop-holds Inv-loop μ-loop
-loop-holds c = omega arith
-
 add-count : tie.Need-add-count Inv-loop μ-loop
 add-count c = omega (arith, places-least (c .before .before .args .value) 10 (omega arith) (omega arith))
-
-loop-less : tie.Need-loop-less Inv-loop μ-loop
-loop-less c = omega arith
 
 loop-again : tie.Need-loop-again Inv-loop μ-loop
 loop-again c = omega (arith, places-more (c .before .loop .rest) (omega arith))
@@ -29,5 +23,4 @@ returns : tie.Need-returns Inv-loop μ-loop
 returns c = omega (arith, places-one (c .before .loop .rest) (omega arith))
 
 pub places-of-spec : {M : Type 1} → statement M
-places-of-spec =
-    tie.close (tie.spec Inv-loop μ-loop loop-holds add-count loop-less loop-again returns)
+places-of-spec = tie.close (tie.spec Inv-loop μ-loop (λ c. omega arith) add-count (λ c. omega arith) loop-again returns)

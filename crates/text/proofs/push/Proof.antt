@@ -15,12 +15,6 @@ returns c =
     let h : length (t .bytes) ≡ 32 = search needs in
     rw (take-all (t .len) (t .bytes) (omega arith)) (sym (added-full (t .bytes) (c .before .args .b ∷ []) h))
 
-element-write-n : tie.Need-element-write-n
-element-write-n c = search needs
-
-add-n : tie.Need-add-n
-add-n c = search needs
-
 returns-2 : tie.Need-returns-2
 returns-2 c =
     let t = c .before .args .t in
@@ -28,4 +22,4 @@ returns-2 c =
     added-store (t .bytes) (t .len) (c .before .args .b) h (omega arith)
 
 pub push-spec : {M : Type 1} → statement M
-push-spec = tie.close (tie.spec returns element-write-n add-n returns-2)
+push-spec = tie.close (tie.spec returns (λ c. search needs) (λ c. search needs) returns-2)

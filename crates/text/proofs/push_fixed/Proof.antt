@@ -6,25 +6,10 @@ use Rattle.text.proofs.Value.{fixed-plain, fixed-added}
 use Rattle.text.proofs.push_fixed.Statement.{statement}
 use Rattle.text.proofs.push_fixed.Tie as tie
 
-push-plain-requires : tie.Need-push-plain-requires
-push-plain-requires c κs = search needs
-
 returns : tie.Need-returns
 returns c =
     let a = c .before .before .args in
     c .push-plain .ensures ∙ rw (fixed-plain (a .decimals) (a .value) (c .before .if1 .taken))
-
-whole-part-requires : tie.Need-whole-part-requires
-whole-part-requires c κs = search needs
-
-push-plain-requires-2 : tie.Need-push-plain-requires-2
-push-plain-requires-2 c κs = search needs
-
-push-requires : tie.Need-push-requires
-push-requires c κs = search needs
-
-push-padded-requires : tie.Need-push-padded-requires
-push-padded-requires c κs = search needs
 
 returns-2 : tie.Need-returns-2
 returns-2 c =
@@ -37,11 +22,5 @@ returns-2 c =
 pub push-fixed-spec : {M : Type 1} → statement M
 push-fixed-spec =
     tie.close
-    (tie.spec
-    push-plain-requires
-    returns
-    whole-part-requires
-    push-plain-requires-2
-    push-requires
-    push-padded-requires
-    returns-2)
+    (tie.spec (λ c κs. search needs) returns (λ c κs. search needs) (λ c κs. search needs) (λ c κs. search needs)
+    (λ c κs. search needs) returns-2)

@@ -5,14 +5,8 @@ use borrow.Author.Needs.{needs}
 use Rattle.text.proofs.push_next.Statement.{statement}
 use Rattle.text.proofs.push_next.Tie as tie
 
-push-requires : tie.Need-push-requires
-push-requires c κs = search needs
-
-push-value-requires : tie.Need-push-value-requires
-push-value-requires c κs = search needs
-
 returns : tie.Need-returns
 returns c = c .push-value .ensures ∙ rw (c .before .push .ensures, added-join)
 
 pub push-next-spec : {M : Type 1} → statement M
-push-next-spec = tie.close (tie.spec push-requires push-value-requires returns)
+push-next-spec = tie.close (tie.spec (λ c κs. search needs) (λ c κs. search needs) returns)

@@ -5,15 +5,9 @@ use Rattle.text.specs.Text.{plain}
 use Rattle.text.proofs.push_plain.Statement.{statement}
 use Rattle.text.proofs.push_plain.Tie as tie
 
-places-of-requires : tie.Need-places-of-requires
-places-of-requires c κs = search needs
-
-push-padded-requires : tie.Need-push-padded-requires
-push-padded-requires c κs = search needs
-
 returns : tie.Need-returns
 unfolding plain
 returns c = c .push-padded .ensures ∙ rw (c .before .places-of .ensures)
 
 pub push-plain-spec : {M : Type 1} → statement M
-push-plain-spec = tie.close (tie.spec places-of-requires push-padded-requires returns)
+push-plain-spec = tie.close (tie.spec (λ c κs. search needs) (λ c κs. search needs) returns)

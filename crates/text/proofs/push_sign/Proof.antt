@@ -8,9 +8,6 @@ use Rattle.text.proofs.Added.{added-none, shown-length}
 use Rattle.text.proofs.push_sign.Statement.{statement}
 use Rattle.text.proofs.push_sign.Tie as tie
 
-push-requires : tie.Need-push-requires
-push-requires c κs = search needs
-
 returns : tie.Need-returns
 unfolding sign
 returns c =
@@ -25,4 +22,4 @@ returns-2 c =
     rw (le-ltb (a .value) (a .bias) (c .if1 .left)) (sym (added-none (shown t) (shown-length (t .bytes) (t .len) (search needs))))
 
 pub push-sign-spec : {M : Type 1} → statement M
-push-sign-spec = tie.close (tie.spec push-requires returns returns-2)
+push-sign-spec = tie.close (tie.spec (λ c κs. search needs) returns returns-2)

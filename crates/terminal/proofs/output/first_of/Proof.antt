@@ -10,17 +10,8 @@ use Rattle.terminal.proofs.output.first_of.Tie as tie
 returns : tie.Need-returns
 returns c = let a = c .before .args in sym (take-all (a .n) (a .bytes .now) (omega arith))
 
-sub-result : tie.Need-sub-result
-sub-result c = search needs
-
-part-result-start : tie.Need-part-result-start
-part-result-start c = search needs
-
-part-result-end : tie.Need-part-result-end
-part-result-end c = search needs
-
 returns-2 : tie.Need-returns-2
 returns-2 c = rw (sub-zero (c .before .before .args .n))
 
 pub first-of-spec : {M : Type 1} → statement M
-first-of-spec = tie.close (tie.spec returns sub-result part-result-start part-result-end returns-2)
+first-of-spec = tie.close (tie.spec returns (λ c. search needs) (λ c. search needs) (λ c. search needs) returns-2)

@@ -1,0 +1,2 @@
+-- Laws on tests that the toolchain does not have.
+pub mod Tests
