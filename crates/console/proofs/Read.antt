@@ -48,12 +48,17 @@ fine-zero : (v : Verdict) → v ≡ Fine → numberOf v ≡ 0
 unfolding numberOf
 fine-zero v e = rw e
 
-reads : (line place : ℕ) (r : Refusal) → line ≤ lineMost → place ≤ placeMost → ReadsAs (numberOf (No line place r)) line place r
+reads : (line place : ℕ) (r : Refusal) → line ≤ lineMost → place ≤ placeMost →
+    ReadsAs (numberOf (No line place r)) line place r
 unfolding numberOf
 reads line place r h g =
     let f = numbered r .1 in
     let n = meaningOf r .number in
-    record { in-line = line-read line place n h g f; at-place = place-read line place n h g f; by-number = refusal-read line place n h g f }
+    record {
+      in-line = line-read line place n h g f;
+      at-place = place-read line place n h g f;
+      by-number = refusal-read line place n h g f;
+    }
 
 module _ (v : Verdict) (line place : ℕ) (r : Refusal) where
   told : Fits v → v ≡ No line place r → ReadsAs (numberOf v) line place r
@@ -62,7 +67,8 @@ module _ (v : Verdict) (line place : ℕ) (r : Refusal) where
   back : Fits v → ReadsAs (numberOf v) line place r → v ≡ No line place r
   back = by v where
     by : (v : Verdict) → Fits v → ReadsAs (numberOf v) line place r → v ≡ No line place r
-    by Fine f e = let z : 0 ≡ meaningOf r .number = unfold numberOf in e .by-number in absurd (omega (arith, numbered r .0))
+    by Fine f e =
+        let z : 0 ≡ meaningOf r .number = unfold numberOf in e .by-number in absurd (omega (arith, numbered r .0))
     by (No l p s) f e =
         let k = reads l p s (f .0) (f .1) in
         let a : l ≡ line = cc in
@@ -73,7 +79,8 @@ module _ (v : Verdict) (line place : ℕ) (r : Refusal) where
 pub read : (capacity : ℕ) (script : List ℕ) → Read capacity script
 read capacity script =
     let v = checkOf capacity script in
+    let fits = check-fits capacity script in
     record {
       yes = (zero-fine v, fine-zero v);
-      no = λ h line place r. (told v line place r (check-fits capacity script h), back v line place r (check-fits capacity script h));
+      no = λ h line place r. (told v line place r (fits h), back v line place r (fits h));
     }
