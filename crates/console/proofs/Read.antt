@@ -1,12 +1,13 @@
 -- A line, a place and a refusal that can be told are read off the number. Assumes nothing.
-use Prim.Native.Nat.{ℕ, _≤_}
-use mathlib.Core.Path.{_≡_, refl, sym, ap, _∙_}
-use mathlib.Core.List.{List, [], _∷_}
+use Prim.Native.Nat.{ℕ, _^_, _≤_, _<_}
+use mathlib.Core.Path.{_≡_, refl}
+use mathlib.Core.List.{List}
 use native.Mathlib.Omega.{arith}
-use lib.ListN.{getD}
+use lib.Dec.{leb, ltb}
+use borrow.Author.Tests.{leb-true, ltb-true}
 use Rattle.refusal.specs.Meaning.{meaningOf}
 use Rattle.refusal.specs.declared.Refusal.{Refusal}
-use Rattle.refusal.specs.declared.Refusal.the-variants.{Malformed, OutOfRange, NotAllowed, NoRoom, LongLine, BadEvent, NoReset, LongScriptLine, BadTraces, BadStart, BadState}
+use Rattle.refusal.proofs.Every.{refusal-rule, same-refusal}
 use Rattle.script.specs.Check.{checkOf}
 use Rattle.verdict.specs.declared.Verdict.{Verdict}
 use Rattle.verdict.specs.declared.Verdict.the-variants.{Fine, No}
@@ -16,42 +17,16 @@ use Rattle.console.proofs.Counted.{Fits, check-fits}
 
 -- ---- the refusals' numbers
 
-numbered : (r : Refusal) → (1 ≤ meaningOf r .number) × (meaningOf r .number ≤ 11)
-numbered Malformed = omega arith
-numbered OutOfRange = omega arith
-numbered NotAllowed = omega arith
-numbered NoRoom = omega arith
-numbered LongLine = omega arith
-numbered BadEvent = omega arith
-numbered NoReset = omega arith
-numbered LongScriptLine = omega arith
-numbered BadTraces = omega arith
-numbered BadStart = omega arith
-numbered BadState = omega arith
-
-abbrev in-order : List Refusal
-in-order = BadState ∷ Malformed ∷ OutOfRange ∷ NotAllowed ∷ NoRoom ∷ LongLine ∷ BadEvent ∷ NoReset ∷ LongScriptLine ∷ BadTraces ∷ BadStart ∷ []
-
-by-order : (r : Refusal) → getD in-order (meaningOf r .number) BadState ≡ r
-by-order Malformed = refl
-by-order OutOfRange = refl
-by-order NotAllowed = refl
-by-order NoRoom = refl
-by-order LongLine = refl
-by-order BadEvent = refl
-by-order NoReset = refl
-by-order LongScriptLine = refl
-by-order BadTraces = refl
-by-order BadStart = refl
-by-order BadState = refl
-
--- no two refusals have one number
-same-refusal : (r s : Refusal) → meaningOf r .number ≡ meaningOf s .number → r ≡ s
-same-refusal r s e = sym (by-order r) ∙ ap (λ (n : ℕ). getD in-order n BadState) e ∙ by-order s
+-- each is a byte, and none is 0
+numbered : (r : Refusal) → (1 ≤ meaningOf r .number) × (meaningOf r .number < 2 ^ 8)
+numbered r = (
+  leb-true 1 _ (refusal-rule (λ q. leb 1 (meaningOf q .number)) refl r),
+  ltb-true _ (2 ^ 8) (refusal-rule (λ q. ltb (meaningOf q .number) (2 ^ 8)) refl r),
+)
 
 -- ---- what is read off
 
-module _ (line place number : ℕ) (h : line ≤ lineMost) (g : place ≤ placeMost) (f : number ≤ 11) where
+module _ (line place number : ℕ) (h : line ≤ lineMost) (g : place ≤ placeMost) (f : number < 2 ^ 8) where
   line-read : lineRead (packed line place number) ≡ line
   line-read = omega arith
 
@@ -70,12 +45,17 @@ fine-zero : (v : Verdict) → v ≡ Fine → numberOf v ≡ 0
 unfolding numberOf
 fine-zero v e = rw e
 
-reads : (line place : ℕ) (r : Refusal) → line ≤ lineMost → place ≤ placeMost → ReadsAs (numberOf (No line place r)) line place r
+reads : (line place : ℕ) (r : Refusal) → line ≤ lineMost → place ≤ placeMost →
+    ReadsAs (numberOf (No line place r)) line place r
 unfolding numberOf
 reads line place r h g =
     let f = numbered r .1 in
     let n = meaningOf r .number in
-    record { in-line = line-read line place n h g f; at-place = place-read line place n h g f; by-number = refusal-read line place n h g f }
+    record {
+      in-line = line-read line place n h g f;
+      at-place = place-read line place n h g f;
+      by-number = refusal-read line place n h g f;
+    }
 
 module _ (v : Verdict) (line place : ℕ) (r : Refusal) where
   told : Fits v → v ≡ No line place r → ReadsAs (numberOf v) line place r
@@ -84,7 +64,8 @@ module _ (v : Verdict) (line place : ℕ) (r : Refusal) where
   back : Fits v → ReadsAs (numberOf v) line place r → v ≡ No line place r
   back = by v where
     by : (v : Verdict) → Fits v → ReadsAs (numberOf v) line place r → v ≡ No line place r
-    by Fine f e = let z : 0 ≡ meaningOf r .number = unfold numberOf in e .by-number in absurd (omega (arith, numbered r .0))
+    by Fine f e =
+        let z : 0 ≡ meaningOf r .number = unfold numberOf in e .by-number in absurd (omega (arith, numbered r .0))
     by (No l p s) f e =
         let k = reads l p s (f .0) (f .1) in
         let a : l ≡ line = cc in
@@ -95,7 +76,8 @@ module _ (v : Verdict) (line place : ℕ) (r : Refusal) where
 pub read : (capacity : ℕ) (script : List ℕ) → Read capacity script
 read capacity script =
     let v = checkOf capacity script in
+    let fits = check-fits capacity script in
     record {
       yes = (zero-fine v, fine-zero v);
-      no = λ h line place r. (told v line place r (check-fits capacity script h), back v line place r (check-fits capacity script h));
+      no = λ h line place r. (told v line place r (fits h), back v line place r (fits h));
     }

@@ -6,10 +6,10 @@ use mathlib.Core.Path.{_≡_, refl, sym}
 use mathlib.Core.List.{List, [], _∷_}
 use lib.Dec.{leb, ltb, eqb}
 use lib.ListN.{length, length-append, List·getD-eq-default}
-use borrow.Author.Tests.{le-leb, leb-true, ltb-true, ltb-false}
+use borrow.Author.Tests.{ne-eqb, le-leb, leb-true, ltb-true, ltb-false}
 use Rattle.refusal.specs.Meaning.{meaningOf}
 use Rattle.refusal.specs.declared.Refusal.{Refusal}
-use Rattle.refusal.specs.declared.Refusal.the-variants.{Malformed, OutOfRange, NotAllowed, NoRoom, LongLine, BadEvent, NoReset, LongScriptLine, BadTraces, BadStart, BadState}
+use Rattle.refusal.specs.declared.Refusal.the-variants.{NotAllowed, NoRoom, LongLine}
 use Rattle.refusal.specs.Answer.{isNoRoom, drops}
 use Rattle.settings.specs.Table.{entries, fmod, freq, send, behind, valueOf}
 use Rattle.settings.specs.Frequency.{hertz, inForce}
@@ -167,17 +167,7 @@ module _ (s : State) (a : allowedState s ≡ true) (k : Sized s) where
 
 small : (r : Refusal) → meaningOf r .number ≤ 2 → isNoRoom r ≡ false
 unfolding isNoRoom
-small Malformed h = refl
-small OutOfRange h = refl
-small NotAllowed h = refl
-small NoRoom h = absurd (omega arith)
-small LongLine h = refl
-small BadEvent h = refl
-small NoReset h = refl
-small LongScriptLine h = refl
-small BadTraces h = refl
-small BadStart h = refl
-small BadState h = refl
+small r h = ne-eqb (meaningOf r .number) 4 (λ e. omega arith)
 
 -- in a room for the longest reply nothing is refused by 4
 record Fits (e : Effect) : Type 0 where

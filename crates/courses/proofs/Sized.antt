@@ -12,7 +12,7 @@ use lib.Pow.{pow-lt}
 use borrow.Author.Tests.{ltb-true}
 use Rattle.refusal.specs.Meaning.{meaningOf}
 use Rattle.refusal.specs.declared.Refusal.{Refusal}
-use Rattle.refusal.specs.declared.Refusal.the-variants.{Malformed, OutOfRange, NotAllowed, NoRoom, LongLine, BadEvent, NoReset, LongScriptLine, BadTraces, BadStart, BadState}
+use Rattle.refusal.proofs.Every.{refusal-rule}
 use Rattle.settings.specs.Table.{entries, table, fmod, oflt, startSettings, behind, valueOf}
 use Rattle.settings.specs.Frequency.{crossingOf, crosses, lifts}
 use Rattle.settings.specs.declared.Settings.{Settings}
@@ -143,17 +143,7 @@ trigger-byte s capacity by = side (setsRunning s by || triggerStores s by) where
   side false = omega arith
 
 refusal-byte : (r : Refusal) → Byte (meaningOf r .bits)
-refusal-byte Malformed = omega arith
-refusal-byte OutOfRange = omega arith
-refusal-byte NotAllowed = omega arith
-refusal-byte NoRoom = omega arith
-refusal-byte LongLine = omega arith
-refusal-byte BadEvent = omega arith
-refusal-byte NoReset = omega arith
-refusal-byte LongScriptLine = omega arith
-refusal-byte BadTraces = omega arith
-refusal-byte BadStart = omega arith
-refusal-byte BadState = omega arith
+refusal-byte r = ltb-true _ (2 ^ 8) (refusal-rule (λ q. ltb (meaningOf q .bits) (2 ^ 8)) refl r)
 
 -- ---- a state
 

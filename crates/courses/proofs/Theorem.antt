@@ -5,11 +5,12 @@ use mathlib.Core.Bool.{Bool, true, false, false≢true}
 use mathlib.Core.Path.{_≡_, refl, sym, ap, _∙_}
 use mathlib.Core.Logic.{_≢_, _↔_}
 use mathlib.Core.List.{List, [], _∷_}
-use lib.Dec.{leb, ltb}
+use lib.Dec.{leb, ltb, eqb}
 use lib.ListN.{length, getD, length-replicate}
-use borrow.Author.Tests.{eq-eqb, ltb-true, ltb-false, leb-true, leb-false}
+use borrow.Author.Tests.{eq-eqb, eqb-true, eqb-false, ltb-true, ltb-false, leb-true, leb-false}
 use Rattle.refusal.specs.declared.Refusal.{Refusal}
-use Rattle.refusal.specs.declared.Refusal.the-variants.{Malformed, OutOfRange, NotAllowed, NoRoom, LongLine, BadEvent, NoReset, LongScriptLine, BadTraces, BadStart, BadState}
+use Rattle.refusal.specs.declared.Refusal.the-variants.{LongLine, NoReset, LongScriptLine, BadTraces}
+use Rattle.refusal.proofs.Every.{same-refusal}
 use Rattle.refusal.specs.declared.Outcome.the-variants as outcome
 use Rattle.command.specs.declared.Parsed.{Parsed}
 use Rattle.state.specs.State.{startState}
@@ -107,18 +108,12 @@ apart : (r s : Refusal) → (numberOf r ≡ numberOf s → ⊥) → r ≢ s
 apart r s n e = n (ap numberOf e)
 
 -- 7, 8, or another
-refusal-split : (r : Refusal) (Goal : Type 0) → (r ≡ NoReset → Goal) → (r ≡ LongScriptLine → Goal) → (r ≢ NoReset → r ≢ LongScriptLine → Goal) → Goal
-refusal-split Malformed G f g h = h (apart Malformed NoReset (λ e. omega arith)) (apart Malformed LongScriptLine (λ e. omega arith))
-refusal-split OutOfRange G f g h = h (apart OutOfRange NoReset (λ e. omega arith)) (apart OutOfRange LongScriptLine (λ e. omega arith))
-refusal-split NotAllowed G f g h = h (apart NotAllowed NoReset (λ e. omega arith)) (apart NotAllowed LongScriptLine (λ e. omega arith))
-refusal-split NoRoom G f g h = h (apart NoRoom NoReset (λ e. omega arith)) (apart NoRoom LongScriptLine (λ e. omega arith))
-refusal-split LongLine G f g h = h (apart LongLine NoReset (λ e. omega arith)) (apart LongLine LongScriptLine (λ e. omega arith))
-refusal-split BadEvent G f g h = h (apart BadEvent NoReset (λ e. omega arith)) (apart BadEvent LongScriptLine (λ e. omega arith))
-refusal-split NoReset G f g h = f refl
-refusal-split LongScriptLine G f g h = g refl
-refusal-split BadTraces G f g h = h (apart BadTraces NoReset (λ e. omega arith)) (apart BadTraces LongScriptLine (λ e. omega arith))
-refusal-split BadStart G f g h = h (apart BadStart NoReset (λ e. omega arith)) (apart BadStart LongScriptLine (λ e. omega arith))
-refusal-split BadState G f g h = h (apart BadState NoReset (λ e. omega arith)) (apart BadState LongScriptLine (λ e. omega arith))
+refusal-split : (r : Refusal) (Goal : Type 0) → (r ≡ NoReset → Goal) → (r ≡ LongScriptLine → Goal) →
+    (r ≢ NoReset → r ≢ LongScriptLine → Goal) → Goal
+refusal-split r G f g h =
+    bool-split (eqb (numberOf r) 7) G (λ e. f (same-refusal r NoReset (eqb-true _ 7 e)))
+    (λ e. bool-split (eqb (numberOf r) 8) G (λ d. g (same-refusal r LongScriptLine (eqb-true _ 8 d)))
+    (λ d. h (apart r NoReset (eqb-false _ 7 e)) (apart r LongScriptLine (eqb-false _ 8 d))))
 
 order-split : (i j : ℕ) (Goal : Type 0) → (i < j → Goal) → (i ≡ j → Goal) → (j < i → Goal) → Goal
 order-split i j G f g h =

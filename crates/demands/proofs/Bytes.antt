@@ -1,7 +1,7 @@
 -- The bytes of a command's text: what divides it, and what is dropped of it. Assumes nothing.
 use Prim.Native.Nat.{ℕ, zero, suc, _+_, _/_, _%_, _^_, _≤_}
 use mathlib.Core.Path.{_≡_, refl, sym, ap, _∙_}
-use mathlib.Core.Bool.{Bool, true, false, true≢false, cond, not, _&&_}
+use mathlib.Core.Bool.{Bool, true, false, true≢false, cond, not, _&&_, and-eq-true-iff}
 use mathlib.Core.List.{List, [], _∷_, _++_}
 use native.Mathlib.Omega.{arith}
 use lib.Dec.{leb, ltb, eqb}
@@ -10,7 +10,6 @@ use borrow.Author.Tests.{le-leb, leb-true, lt-ltb, eq-eqb, ne-eqb}
 use Rattle.divide.specs.Divide.{parts, onHead}
 use Rattle.clean.specs.Clean.{cleaned}
 use Rattle.number.specs.Number.{minus, point, begins}
-use Rattle.laws.proofs.Tests.{and-first, and-second}
 use Rattle.text.specs.Text.{padded, places, plain, fixed, sign, distance, signedText}
 use Rattle.text.proofs.Digits.{padded-length, places-some}
 use Rattle.command.specs.Arguments.{comma, arguments}
@@ -22,22 +21,28 @@ all p (b ∷ bs) = p b && all p bs
 
 pub all-append : (p : ℕ → Bool) (xs ys : List ℕ) → all p xs ≡ true → all p ys ≡ true → all p (xs ++ ys) ≡ true
 all-append p [] ys h k = k
-all-append p (x ∷ xs) ys h k = rw (and-first (p x) (all p xs) h, all-append p xs ys (and-second (p x) (all p xs) h) k)
+all-append p (x ∷ xs) ys h k =
+    let both = and-eq-true-iff (p x) (all p xs) .0 h in rw (both .0, all-append p xs ys (both .1) k)
 
-pub all-wider : (p q : ℕ → Bool) → ((b : ℕ) → p b ≡ true → q b ≡ true) → (xs : List ℕ) → all p xs ≡ true → all q xs ≡ true
+pub all-wider : (p q : ℕ → Bool) → ((b : ℕ) → p b ≡ true → q b ≡ true) → (xs : List ℕ) → all p xs ≡ true →
+    all q xs ≡ true
 all-wider p q f [] h = refl
-all-wider p q f (x ∷ xs) h = rw (f x (and-first (p x) (all p xs) h), all-wider p q f xs (and-second (p x) (all p xs) h))
+all-wider p q f (x ∷ xs) h =
+    let both = and-eq-true-iff (p x) (all p xs) .0 h in rw (f x (both .0), all-wider p q f xs (both .1))
 
+-- from low to high
 abbrev between : ℕ → ℕ → ℕ → Bool
 between low high b = leb low b && leb b high
 
--- the bytes of a number's text lie from "-" to "9", those of arguments from "," to "9", those of a command from "*" to "Z"
+-- the bytes of a number's text lie from "-" to "9"
 abbrev pub inNumber : ℕ → Bool
 inNumber b = between 45 57 b
 
+-- those of arguments from "," to "9"
 abbrev pub inArguments : ℕ → Bool
 inArguments b = between 44 57 b
 
+-- those of a command from "*" to "Z", without ";"
 abbrev pub inCommand : ℕ → Bool
 inCommand b = between 42 90 b && not (eqb b 59)
 
@@ -47,7 +52,8 @@ record Between (low high b : ℕ) : Type 0 where
 
 is-between : (low high b : ℕ) → between low high b ≡ true → Between low high b
 is-between low high b h =
-    record { least = leb-true low b (and-first (leb low b) (leb b high) h); most = leb-true b high (and-second (leb low b) (leb b high) h) }
+    let both = and-eq-true-iff (leb low b) (leb b high) .0 h in
+    record { least = leb-true low b (both .0); most = leb-true b high (both .1) }
 
 number-argument : (b : ℕ) → inNumber b ≡ true → inArguments b ≡ true
 number-argument b h = let i = is-between 45 57 b h in rw (le-leb 44 b (omega arith), le-leb b 57 (omega arith))
@@ -71,29 +77,32 @@ module _ (p : ℕ → Bool) (sep : ℕ) (refused : p sep ≡ false) where
   pub parts-free : (xs : List ℕ) → all p xs ≡ true → parts sep xs ≡ xs ∷ []
   unfolding parts onHead
   parts-free [] h = refl
-  parts-free (x ∷ xs) h = rw (apart x (and-first (p x) (all p xs) h), parts-free xs (and-second (p x) (all p xs) h))
+  parts-free (x ∷ xs) h =
+      let both = and-eq-true-iff (p x) (all p xs) .0 h in rw (apart x (both .0), parts-free xs (both .1))
 
   pub parts-joined : (xs ys : List ℕ) → all p xs ≡ true → parts sep (xs ++ sep ∷ ys) ≡ xs ∷ parts sep ys
   unfolding parts onHead
   parts-joined [] ys h = rw (eq-eqb sep sep refl)
-  parts-joined (x ∷ xs) ys h = rw (apart x (and-first (p x) (all p xs) h), parts-joined xs ys (and-second (p x) (all p xs) h))
+  parts-joined (x ∷ xs) ys h =
+      let both = and-eq-true-iff (p x) (all p xs) .0 h in rw (apart x (both .0), parts-joined xs ys (both .1))
 
   pub begins-other : (xs : List ℕ) → all p xs ≡ true → begins sep xs ≡ false
   unfolding begins
   begins-other [] h = refl
-  begins-other (x ∷ xs) h = apart x (and-first (p x) (all p xs) h)
+  begins-other (x ∷ xs) h = apart x (and-eq-true-iff (p x) (all p xs) .0 h .0)
 
 -- a command's bytes are kept as they are
 pub cleaned-same : (xs : List ℕ) → all inCommand xs ≡ true → cleaned xs ≡ xs
 unfolding cleaned
 cleaned-same [] h = refl
 cleaned-same (x ∷ xs) h =
-    let i = is-between 42 90 x (and-first (between 42 90 x) (not (eqb x 59)) (and-first (inCommand x) (all inCommand xs) h)) in
+    let both = and-eq-true-iff (inCommand x) (all inCommand xs) .0 h in
+    let i = is-between 42 90 x (and-eq-true-iff (between 42 90 x) (not (eqb x 59)) .0 (both .0) .0) in
     rw (
       ne-eqb x 32 (λ e. omega arith),
       ne-eqb x 13 (λ e. omega arith),
       lt-ltb x 97 (omega arith),
-      cleaned-same xs (and-second (inCommand x) (all inCommand xs) h),
+      cleaned-same xs (both .1),
     )
 
 pub arguments-some : (s : List ℕ) → 1 ≤ length s → arguments s ≡ parts comma s

@@ -10,7 +10,7 @@ use lib.Seq.{getD-set-same, getD-set-other, set-out}
 use borrow.Author.Tests.{leb-true, ltb-true, ltb-false, eqb-true, eqb-false}
 use Rattle.refusal.specs.Meaning.{meaningOf}
 use Rattle.refusal.specs.declared.Refusal.{Refusal}
-use Rattle.refusal.specs.declared.Refusal.the-variants.{Malformed, OutOfRange, NotAllowed, NoRoom, LongLine, BadEvent, NoReset, LongScriptLine, BadTraces, BadStart, BadState}
+use Rattle.refusal.proofs.Every.{refusal-rule}
 use Rattle.settings.specs.Table.{oflt, fmod, freq, harm, send, behind, valueOf, withValue, startSettings}
 use Rattle.settings.specs.Frequency.{inForce, detectionOf, withinLimit, timeConstantStands}
 use Rattle.settings.specs.Allowed.{keeps, keepsAll}
@@ -124,17 +124,7 @@ module _ (old : ℕ) (s : Settings) (m : Moving) (capacity : ℕ) (h : Holds old
 
 -- the bits of refusals are used ones
 bits-free : (r : Refusal) → bitAnd (meaningOf r .bits) status.standardUnused ≡ 0
-bits-free Malformed = refl
-bits-free OutOfRange = refl
-bits-free NotAllowed = refl
-bits-free NoRoom = refl
-bits-free LongLine = refl
-bits-free BadEvent = refl
-bits-free NoReset = refl
-bits-free LongScriptLine = refl
-bits-free BadTraces = refl
-bits-free BadStart = refl
-bits-free BadState = refl
+bits-free r = eqb-true _ 0 (refusal-rule (λ q. eqb (bitAnd (meaningOf q .bits) status.standardUnused) 0) refl r)
 
 -- a unit's capacity, from 1 to 16383
 pub record Capacity (u : Unit) : Type 0 where

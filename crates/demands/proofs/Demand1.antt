@@ -37,8 +37,7 @@ use Rattle.demands.specs.Demand1.{FirstRefused, RunsLine, fedTo, RunsWai
 use Rattle.demands.specs.Demand1.{RefusedCall, emptiedAt, RefusedEvent, OfStart, RefusedStart, RefusedPoll}
 use Rattle.demands.specs.Demand1.{RefusedChangesNothing}
 use Rattle.demands.specs.Demand1 as demand
-use Rattle.demands.proofs.OneByOne.{marked-only, done-never, command-refused, step-refused, commands-are}
-use Rattle.demands.proofs.OneByOne.{passed-never, answering}
+use Rattle.demands.proofs.OneByOne.{marked-only, never, command-refused, step-refused, commands-are, answering}
 use Rattle.demands.proofs.Says.{open-call}
 
 -- refusals 11 and 9, by the tests that decide them
@@ -138,12 +137,6 @@ line-refused room bytes m one two refusal =
     by true = ran-refuses m one two refusal (m .queue) room bytes (m .queue)
     by false = long-refuses m one two refusal (m .queue) (m .queue) refl
 
-nothing-never : {A : Type 0} → ended.Nothing ≡ ended.TooLong → A
-nothing-never p = let z : _≡_ {A = ℕ} 0 1 = cc in absurd (omega arith)
-
-line-never : {A : Type 0} → ended.Line ≡ ended.TooLong → A
-line-never p = let z : _≡_ {A = ℕ} 0 1 = cc in absurd (omega arith)
-
 -- the queue after byte 257
 fed-long : (q : Queue) (port b : ℕ) (mark : Bool) → queue.fedOf q port b mark .ended ≡ ended.TooLong
     → queue.fedOf q port b mark .queue ≡ emptiedAt q (queue.isMarked port mark)
@@ -157,16 +150,16 @@ fed-long q port b mark =
         (cond l (record { queue = queue.longer q b; ended = cond k ended.Line ended.Nothing })
         (queue.tooLongOf q k))) in
         fed .ended ≡ ended.TooLong → fed .queue ≡ emptiedAt q k
-    by true e l k p = nothing-never p
-    by false true l k p = line-never p
-    by false false true true p = line-never p
-    by false false true false p = nothing-never p
+    by true e l k p = never (cc)
+    by false true l k p = never (cc)
+    by false false true true p = never (cc)
+    by false false true false p = never (cc)
     by false false false k p = refl
 
 fed-refuses : (e : Ended) (t : Queue) (room : ℕ) (m : Module) (one two : List ℕ) (refusal : Refusal) (q : Queue) →
     (e ≡ ended.TooLong → t ≡ q) → Refuses m one two refusal q (fedCall e t room m one two)
 unfolding fedCall endedLine Refuses
-fed-refuses ended.Nothing t room m one two refusal q h = passed-never refusal 0
+fed-refuses ended.Nothing t room m one two refusal q h = λ e. never (cc)
 fed-refuses ended.Line t room m one two refusal q h =
     ran-refuses m one two refusal q room (queue.waitingBytes t) (queue.emptiedOf t)
 fed-refuses ended.TooLong t room m one two refusal q h = long-refuses m one two refusal q t (h refl)
@@ -253,7 +246,7 @@ module _ (room b : ℕ) (mark : Bool) (m : Module) (one two : List ℕ) where
       c .told .answer ≡ answer.Refused r (p + 1) →
       (e ≡ ended.Line) × RunsLine room (queue.waitingBytes q) m (queue.emptiedOf q) one two c
   unfolding fedCall
-  fed-placed ended.Nothing q r p e = passed-never r (p + 1) e
+  fed-placed ended.Nothing q r p e = never (cc)
   fed-placed ended.Line q r p e = (refl, fed-runs q)
   fed-placed ended.TooLong q r p e = nowhere-never LongLine r p e
 
@@ -272,16 +265,16 @@ module _ (room b : ℕ) (mark : Bool) (m : Module) (one two : List ℕ) where
 
 either-refused : (t : Bool) (a s : State) (r : Refusal) →
     cond t (done a) (refused s) .outcome ≡ Refused r → r ≡ BadEvent
-either-refused true a s r p = done-never r p
+either-refused true a s r p = never (cc)
 either-refused false a s r p = cc
 
 event-number : (e : Event) (s : State) (one two : List ℕ) (r : Refusal) →
     eventOf e s one two .outcome ≡ Refused r → r ≡ BadEvent
 unfolding eventOf pairTaken bitsRaised sampledIn
 event-number (Latest w v) s one two r p = either-refused (legalPair w v) (withLatest w v s) s r p
-event-number Tick s one two r p = done-never r p
-event-number Trigger s one two r p = done-never r p
-event-number (Measured f) s one two r p = done-never r p
+event-number Tick s one two r p = never (cc)
+event-number Trigger s one two r p = never (cc)
+event-number (Measured f) s one two r p = never (cc)
 event-number (Raised lia errors) s one two r p =
     either-refused (mayRaise lia errors) (withRegisters (withRaised (s .registers) lia errors) s) s r p
 
@@ -325,7 +318,7 @@ module _ (serial port first second : ℕ) where
         let made : Started = record { after = freshModule fixed; outcome = Done } in
         let s = cond u (cond t made (refusedStart BadTraces)) (refusedStart BadStart) in
         s .outcome ≡ Refused r → RefusedStart serial port first second r s
-    by true true u t e = done-never r e
+    by true true u t e = never (cc)
     by true false u t e =
         let same : BadTraces ≡ r = cc in
         rw (← same) (record { told = demand.tracesUnfit u t; after = refl })
@@ -341,7 +334,7 @@ poll-refused m r = (by (allowedModule m) refl, λ x. rw (x .outside, x .told)) w
       let told : Polled = record { status = statusBetween (m .state); outcome = Done } in
       let p = cond t told (record { status = 0; outcome = Refused BadState }) in
       p .outcome ≡ Refused r → RefusedPoll r m p
-  by true t e = done-never r e
+  by true t e = never (cc)
   by false t e = record { told = cc; outside = t; status = refl }
 
 pub refused-changes-nothing : RefusedChangesNothing

@@ -1,19 +1,21 @@
 -- Every entry of the table belongs to a setting that a name stands for: one test that computes. Assumes nothing.
 use Prim.Native.Nat.{ℕ, _+_, _-_, _*_, _/_, _<_, _≤_}
 use mathlib.Core.Path.{_≡_, refl, sym, ap, _∙_}
-use mathlib.Core.Bool.{Bool, true, false, true≢false, _&&_, _||_}
+use mathlib.Core.Bool.{Bool, true, false, true≢false, _&&_, and-eq-true-iff}
 use mathlib.Core.List.{List, [], _∷_, List·Memᴰ, List·Memᴰ·head, List·Memᴰ·tail}
 use native.Mathlib.Omega.{arith}
 use lib.Dec.{leb, ltb, eqb}
 use borrow.Author.Tests.{ltb-true, leb-true, eqb-true, eqb-false}
-use Rattle.laws.proofs.Tests.{and-first, and-second}
-use Rattle.name.specs.Names.{Named, commands, meaningIn, meaningOf}
+use Rattle.name.specs.Names.{commands, meaningIn, meaningOf}
 use Rattle.name.specs.declared.Meaning.{Meaning}
-use Rattle.name.specs.declared.Meaning.the-variants.{Setting, Channel, ChannelPair, Enable, Status, Identity, Points, Trace, Act, Unknown}
+use Rattle.name.specs.declared.Meaning.the-variants.{Setting, Channel, ChannelPair, Enable, Status, Identity}
+use Rattle.name.specs.declared.Meaning.the-variants.{Points, Trace, Act, Unknown}
+use Rattle.name.proofs.Rule.{some, name-found}
 use Rattle.settings.specs.Table.{entries, behind}
 use Rattle.settings.specs.Allowed.{every}
 use Rattle.settings.proofs.Every.{every-at}
-use Rattle.demands.specs.Demand2.{Place, atEntry, Address, plainly, channelled, IsSetting, alone, channel, pair, EveryEntry}
+use Rattle.demands.specs.Demand2.{atEntry, Address, plainly, channelled, IsSetting, alone, channel, pair}
+use Rattle.demands.specs.Demand2.{EveryEntry}
 use Rattle.demands.proofs.Kept.{behind-is}
 
 -- a meaning's entries, over all channels
@@ -32,22 +34,9 @@ covers entry (Trace form) = false
 covers entry (Act a) = false
 covers entry Unknown = false
 
--- some name of the list covers the entry
-abbrev covered : List Named → ℕ → Bool
-covered [] entry = false
-covered (n ∷ ns) entry = covers entry (meaningOf (n .name)) || covered ns entry
-
-all-covered : every (covered commands) entries ≡ true
+all-covered : every (λ entry. some (covers entry) commands) entries ≡ true
 unfolding every meaningIn
 all-covered = refl
-
-found : (ns : List Named) (entry : ℕ) → covered ns entry ≡ true → (name : List ℕ) × (covers entry (meaningOf name) ≡ true)
-found [] entry h = absurd (true≢false (sym h))
-found (n ∷ ns) entry h = by (covers entry (meaningOf (n .name))) refl h (found ns entry) where
-  by : (t : Bool) → covers entry (meaningOf (n .name)) ≡ t → (t || covered ns entry) ≡ true →
-      (covered ns entry ≡ true → (name : List ℕ) × (covers entry (meaningOf name) ≡ true)) → (name : List ℕ) × (covers entry (meaningOf name) ≡ true)
-  by true e g ih = (n .name, e)
-  by false e g ih = ih g
 
 record Within (base end entry : ℕ) : Type 0 where
   least : base ≤ entry
@@ -55,37 +44,48 @@ record Within (base end entry : ℕ) : Type 0 where
 
 is-within : (base end entry : ℕ) → within base end entry ≡ true → Within base end entry
 is-within base end entry h =
-    record { least = leb-true base entry (and-first (leb base entry) (ltb entry end) h); most = ltb-true entry end (and-second (leb base entry) (ltb entry end) h) }
+    let both = and-eq-true-iff (leb base entry) (ltb entry end) .0 h in
+    record { least = leb-true base entry (both .0); most = ltb-true entry end (both .1) }
 
 module _ (entry : ℕ) (inside : entry < entries) (name : List ℕ) where
   Found : Type 0
   Found = (a : Address) × IsSetting a × List·Memᴰ (atEntry entry) (a .holds)
 
-  found-pair : (base channels : ℕ) → meaningOf name ≡ ChannelPair base channels → Within base (base + 2 * channels) entry → Found
+  found-pair : (base channels : ℕ) → meaningOf name ≡ ChannelPair base channels →
+      Within base (base + 2 * channels) entry → Found
   unfolding Found
-  found-pair base channels e w =
-      let k = (entry - base) / 2 in
-      let at = base + 2 * (k + 1 - 1) in
-      (channelled name (k + 1) (atEntry at ∷ atEntry (behind at) ∷ []), pair name base channels (k + 1) e (omega arith) (omega arith), by (eqb entry at) refl)
+  found-pair base channels e w = (
+    channelled name i (atEntry at ∷ atEntry (behind at) ∷ []),
+    pair name base channels i e (omega arith) (omega arith),
+    by (eqb entry at) refl,
+  )
     where
-      by : (t : Bool) → eqb entry (base + 2 * ((entry - base) / 2 + 1 - 1)) ≡ t →
-          List·Memᴰ (atEntry entry)
-          (atEntry (base + 2 * ((entry - base) / 2 + 1 - 1)) ∷ atEntry (behind (base + 2 * ((entry - base) / 2 + 1 - 1))) ∷ [])
+      -- the channel, and its first entry
+      i : ℕ
+      i = (entry - base) / 2 + 1
+
+      at : ℕ
+      at = base + 2 * (i - 1)
+
+      by : (t : Bool) → eqb entry at ≡ t → List·Memᴰ (atEntry entry) (atEntry at ∷ atEntry (behind at) ∷ [])
       by true z = List·Memᴰ·head (ap atEntry (eqb-true entry _ z))
       by false z =
-          let at = base + 2 * ((entry - base) / 2 + 1 - 1) in
           let other = eqb-false entry at z in
           let next : entry ≡ at + 1 = omega arith in
           List·Memᴰ·tail (List·Memᴰ·head (ap atEntry (next ∙ sym (behind-is at (omega arith)))))
 
   found-in : (m : Meaning) → meaningOf name ≡ m → covers entry m ≡ true → Found
   unfolding Found
-  found-in (Setting at) e h = (plainly name (atEntry at), alone name at e, List·Memᴰ·head (ap atEntry (eqb-true entry at h)))
+  found-in (Setting at) e h =
+      (plainly name (atEntry at), alone name at e, List·Memᴰ·head (ap atEntry (eqb-true entry at h)))
   found-in (Channel base channels) e h =
       let w = is-within base (base + channels) entry h in
       let i = entry - base + 1 in
-      let here : entry ≡ base + (i - 1) = omega arith in
-      (channelled name i (atEntry (base + (i - 1)) ∷ []), channel name base channels i e (omega arith) (omega arith), List·Memᴰ·head (ap atEntry here))
+      let here : entry ≡ base + (i - 1) = omega arith in (
+        channelled name i (atEntry (base + (i - 1)) ∷ []),
+        channel name base channels i e (omega arith) (omega arith),
+        List·Memᴰ·head (ap atEntry here),
+      )
   found-in (ChannelPair base channels) e h = found-pair base channels e (is-within base (base + 2 * channels) entry h)
   found-in (Enable r) e h = absurd (true≢false (sym h))
   found-in (Status r) e h = absurd (true≢false (sym h))
@@ -98,5 +98,7 @@ module _ (entry : ℕ) (inside : entry < entries) (name : List ℕ) where
 pub every-entry : EveryEntry
 unfolding Found
 every-entry entry h =
-    let n = found commands entry (every-at (covered commands) entries all-covered entry h) in
+    let n =
+    name-found (covers entry) commands (every-at (λ e. some (covers e) commands) entries all-covered entry h)
+    in
     found-in entry h (n .0) (meaningOf (n .0)) refl (n .1)

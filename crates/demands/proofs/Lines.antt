@@ -10,22 +10,19 @@ use lib.ListN.{length, length-append}
 use Rattle.divide.specs.Divide.{onHead, parts}
 use Rattle.clean.specs.Clean.{isDropped, capital, cleaned}
 use Rattle.clean.specs.Texts.{semicolon, textsOf}
-use Rattle.refusal.specs.declared.Refusal.{Refusal}
-use Rattle.refusal.specs.declared.Refusal.the-variants.{NoRoom}
 use Rattle.refusal.specs.declared.Outcome.{Outcome}
 use Rattle.refusal.specs.declared.Outcome.the-variants as outcome
 use Rattle.refusal.specs.declared.Outcome.the-variants.{Done}
 use Rattle.refusal.specs.declared.Answer.{Answer}
 use Rattle.refusal.specs.declared.Answer.the-variants.{Passed, Refused}
-use Rattle.refusal.specs.Answer.{toldOf, firstOf, drops}
-use Rattle.state.specs.declared.State.{State}
+use Rattle.refusal.specs.Answer.{firstOf, drops}
 use Rattle.command.specs.Parsed.{parsedOf}
 use Rattle.line.specs.Perform.{commandOf}
 use Rattle.line.specs.Line.{Line, waits, startLine, afterOf, stepOf, runAll, lineOf}
 use Rattle.module.specs.Module.{guardOf}
 use Rattle.module.specs.declared.Module.{Module}
-use Rattle.lockin.specs.Calls.{Call, ran, lineCall}
-use Rattle.demands.specs.Lines.{continued, laterAnswer, later, InTurn, SeveralCommands}
+use Rattle.lockin.specs.Calls.{ran, lineCall}
+use Rattle.demands.specs.Lines.{continued, laterAnswer, later, SeveralCommands}
 use Rattle.demands.proofs.Says.{open-call}
 use Rattle.demands.proofs.StaysAllowed.{stays-allowed}
 
@@ -94,7 +91,7 @@ module _ (room : ℕ) where
         by next true e ih = rw e refl
         by next false e ih = ih e
 
-  -- a line so many places further on
+  -- a line n places further on
   abbrev further : ℕ → Line → Line
   further n l =
       record {
@@ -168,16 +165,11 @@ module _ (room : ℕ) where
           let w = ih z e in
           record { passes = w .passes; count = omega (arith, w .count) }
 
-  abbrev made : State → List ℕ → List ℕ → List ℕ → Answer → ℕ → Bool → Line
-  made s one two out answer count dropped =
-      record { state = s; one = one; two = two; out = out; answer = answer; count = count; dropped = dropped }
-
+  -- a line that has run whole and silently is a new one further on
   begun : (l : Line) (n : ℕ) → l .out ≡ [] → l .answer ≡ Passed → l .count ≡ 0 + n → l .dropped ≡ false →
       l ≡ further n (startLine (l .state) (l .one) (l .two))
   begun l n o a c d =
-      let z : made (l .state) (l .one) (l .two) (l .out) (l .answer) (l .count) (l .dropped)
-      ≡ made (l .state) (l .one) (l .two) [] Passed (0 + n) false = rw (o, a, c, d) refl in
-      z
+      λ i. record { state = l .state; one = l .one; two = l .two; out = o i; answer = a i; count = c i; dropped = d i }
 
 module _ (room : ℕ) (x y : List ℕ) (short : length (x ++ semicolon ∷ y) ≤ 256) (m : Module) (one two : List ℕ)
     (passes : guardOf m (length one) (length two) ≡ Done)

@@ -1,54 +1,37 @@
--- Laws on the names: a rule of what they stand for is one test that computes. Assumes nothing.
+-- What each name stands for fits the settings table: one test that computes over the list of names. Assumes nothing.
 use Prim.Native.Nat.{ℕ, _+_, _-_, _*_, _<_, _≤_}
-use mathlib.Core.Path.{_≡_, refl, sym}
-use mathlib.Core.Bool.{Bool, true, false, true≢false, cond, _&&_}
+use mathlib.Core.Path.{_≡_, refl}
+use mathlib.Core.Bool.{Bool, true, _&&_, and-eq-true-iff}
 use mathlib.Core.List.{List, [], _∷_}
 use native.Mathlib.Omega.{arith}
 use lib.Dec.{leb, ltb, eqb}
 use lib.ListN.{length}
 use borrow.Author.Tests.{ltb-true, leb-true, eqb-true, ne-eqb}
-use Rattle.laws.proofs.Tests.{and-first, and-second}
-use Rattle.name.specs.Names.{Named, commands, sameBytes, meaningIn, meaningOf}
+use Rattle.name.specs.Names.{commands, sameBytes, meaningOf}
 use Rattle.name.specs.declared.Register.{Register}
 use Rattle.name.specs.declared.Meaning.{Meaning}
-use Rattle.name.specs.declared.Meaning.the-variants.{Setting, Channel, ChannelPair, Enable, Status, Identity, Points, Trace, Act, Unknown}
-use Rattle.settings.specs.Table.{table, rowOf, entries, freq, oflt}
+use Rattle.name.specs.declared.Meaning.the-variants.{Setting, Channel, ChannelPair, Enable, Status, Identity}
+use Rattle.name.specs.declared.Meaning.the-variants.{Points, Trace, Act, Unknown}
+use Rattle.name.proofs.Rule.{same-bytes, name-rule}
+use Rattle.name.proofs.Rule as rule
+use Rattle.settings.specs.Table.{table, rowOf, entries, freq, oflt, send}
 use Rattle.settings.specs.Setting.{stepOf}
 use Rattle.settings.specs.Allowed.{every, keeps}
 use Rattle.settings.proofs.Every.{every-at}
 use Rattle.demands.specs.Written.{written}
 use Rattle.demands.proofs.Bytes.{all, inCommand}
 
-same-bytes : (s t : List ℕ) → sameBytes s t ≡ true → s ≡ t
-same-bytes [] [] h = refl
-same-bytes [] (b ∷ t) h = absurd (true≢false (sym h))
-same-bytes (a ∷ s) [] h = absurd (true≢false (sym h))
-same-bytes (a ∷ s) (b ∷ t) h =
-    rw (eqb-true a b (and-first (eqb a b) (sameBytes s t) h), same-bytes s t (and-second (eqb a b) (sameBytes s t) h))
+-- ---- entries with channels
 
-abbrev allNamed : (List ℕ → Meaning → Bool) → List Named → Bool
-allNamed p [] = true
-allNamed p (n ∷ ns) = p (n .name) (n .meaning) && allNamed p ns
-
-rule-in : (p : List ℕ → Meaning → Bool) (ns : List Named) → allNamed p ns ≡ true → (s : List ℕ) → p s Unknown ≡ true → p s (meaningIn ns s) ≡ true
-unfolding meaningIn
-rule-in p [] t s u = u
-rule-in p (n ∷ ns) t s u = by (sameBytes (n .name) s) refl (rule-in p ns (and-second (p (n .name) (n .meaning)) (allNamed p ns) t) s u) where
-  by : (c : Bool) → sameBytes (n .name) s ≡ c → p s (meaningIn ns s) ≡ true → p s (cond c (n .meaning) (meaningIn ns s)) ≡ true
-  by true e ih = rw (← same-bytes (n .name) s e) (and-first (p (n .name) (n .meaning)) (allNamed p ns) t)
-  by false e ih = ih
-
--- a test that computes to true over the list of names holds of what each name stands for
-pub name-rule : (p : List ℕ → Meaning → Bool) → allNamed p commands ≡ true → (s : List ℕ) → p s Unknown ≡ true → p s (meaningOf s) ≡ true
-name-rule p = rule-in p commands
-
--- two entries that keep and write a value alike: past FREQ and OFLT, and these cells of their rows are the same
+-- the cells of an entry's row that say how a value is kept and written
 abbrev cells : ℕ → List ℕ
 cells e = rowOf e .bias ∷ rowOf e .decimals ∷ rowOf e .least ∷ rowOf e .most ∷ rowOf e .step ∷ []
 
+-- two entries that keep and write a value alike; they lie between OFLT and SEND, where no rule binds an entry
 pub record Alike (e f : ℕ) : Type 0 where
   pub inside : e < entries
   pub past : oflt < e
+  pub before : e < send
   second : oflt < f
   rows : cells e ≡ cells f
 
@@ -71,19 +54,31 @@ module _ {e f : ℕ} (a : Alike e f) (v : ℕ) where
       let y = a .second in
       rw (l, m, s, ne-eqb e freq (λ z. omega arith), ne-eqb f freq (λ z. omega arith))
 
--- what a setting's name needs: four bytes of a command, and entries of the table, alike for every channel
+-- entries between OFLT and SEND, by a test of their cells
+alike-at : (e f : ℕ) → oflt < e → e < send → oflt < f → sameBytes (cells e) (cells f) ≡ true → Alike e f
+alike-at e f past before second h =
+    record { inside = omega arith; past = past; before = before; second = second; rows = same-bytes _ _ h }
+
+-- ---- the test
+
+-- a setting's name is four bytes of a command
 abbrev isName : List ℕ → Bool
 isName name = eqb (length name) 4 && all inCommand name
 
+-- the entries of channels, from base up to end, lie between OFLT and SEND, and each passes a test
 abbrev channelsFit : (ℕ → Bool) → ℕ → ℕ → ℕ → Bool
-channelsFit alike base end channels = ltb oflt base && (leb end entries && every alike channels)
+channelsFit alike base end channels = ltb oflt base && (leb end send && every alike channels)
 
+-- the entry of a channel is as the first one's
 abbrev alikeOne : ℕ → ℕ → Bool
 alikeOne base k = sameBytes (cells (base + k)) (cells base)
 
+-- both entries of a channel are as the first one's
 abbrev alikeTwo : ℕ → ℕ → Bool
-alikeTwo base k = sameBytes (cells (base + 2 * k)) (cells base) && sameBytes (cells (base + 2 * k + 1)) (cells (base + 1))
+alikeTwo base k =
+    sameBytes (cells (base + 2 * k)) (cells base) && sameBytes (cells (base + 2 * k + 1)) (cells (base + 1))
 
+-- what a name stands for fits the table, for every channel
 abbrev fits : List ℕ → Meaning → Bool
 fits name (Setting entry) = isName name && ltb entry entries
 fits name (Channel base channels) = isName name && channelsFit (alikeOne base) base (base + channels) channels
@@ -96,20 +91,21 @@ fits name (Trace form) = true
 fits name (Act a) = true
 fits name Unknown = true
 
-fits-all : allNamed fits commands ≡ true
+fits-all : rule.all fits commands ≡ true
 unfolding every table rowOf
 fits-all = refl
 
+-- ---- what follows of a name
+
+-- four bytes of a command
 pub record Name (name : List ℕ) : Type 0 where
   pub four : length name ≡ 4
   pub bytes : all inCommand name ≡ true
 
 is-name : (name : List ℕ) → isName name ≡ true → Name name
 is-name name h =
-    record {
-      four = eqb-true (length name) 4 (and-first (eqb (length name) 4) (all inCommand name) h);
-      bytes = and-second (eqb (length name) 4) (all inCommand name) h;
-    }
+    let both = and-eq-true-iff (eqb (length name) 4) (all inCommand name) .0 h in
+    record { four = eqb-true (length name) 4 (both .0); bytes = both .1 }
 
 module _ (name : List ℕ) where
   fits-name : (m : Meaning) → meaningOf name ≡ m → fits name m ≡ true
@@ -117,59 +113,51 @@ module _ (name : List ℕ) where
 
   pub name-of-one : (entry : ℕ) → meaningOf name ≡ Setting entry → Name name × (entry < entries)
   name-of-one entry e =
-      let h = fits-name (Setting entry) e in
-      (is-name name (and-first (isName name) (ltb entry entries) h), ltb-true entry entries (and-second (isName name) (ltb entry entries) h))
+      let both = and-eq-true-iff (isName name) (ltb entry entries) .0 (fits-name (Setting entry) e) in
+      (is-name name (both .0), ltb-true entry entries (both .1))
 
   pub name-of-enable : (which : Register) → meaningOf name ≡ Enable which → Name name
   name-of-enable which e = is-name name (fits-name (Enable which) e)
 
-  -- channels alike, by one test for each
-  module _ (alike : ℕ → Bool) (base end channels : ℕ) (h : (isName name && channelsFit alike base end channels) ≡ true) where
-    fit-name : Name name
-    fit-name = is-name name (and-first (isName name) (channelsFit alike base end channels) h)
+  -- channels of the table, each by a test
+  record Channels (alike : ℕ → Bool) (base end channels : ℕ) : Type 0 where
+    named : Name name
+    first : oflt < base
+    last : end ≤ send
+    each : (k : ℕ) → k < channels → alike k ≡ true
 
-    rest : channelsFit alike base end channels ≡ true
-    rest = and-second (isName name) (channelsFit alike base end channels) h
-
-    fit-first : oflt < base
-    fit-first = ltb-true oflt base (and-first (ltb oflt base) (leb end entries && every alike channels) rest)
-
-    ends : (leb end entries && every alike channels) ≡ true
-    ends = and-second (ltb oflt base) (leb end entries && every alike channels) rest
-
-    fit-end : end ≤ entries
-    fit-end = leb-true end entries (and-first (leb end entries) (every alike channels) ends)
-
-    fit-at : (k : ℕ) → k < channels → alike k ≡ true
-    fit-at = every-at alike channels (and-second (leb end entries) (every alike channels) ends)
+  channels-fit : (alike : ℕ → Bool) (base end channels : ℕ) →
+      (isName name && channelsFit alike base end channels) ≡ true → Channels alike base end channels
+  channels-fit alike base end channels h =
+      let one = and-eq-true-iff (isName name) (channelsFit alike base end channels) .0 h in
+      let two = and-eq-true-iff (ltb oflt base) (leb end send && every alike channels) .0 (one .1) in
+      let three = and-eq-true-iff (leb end send) (every alike channels) .0 (two .1) in
+      record {
+        named = is-name name (one .0);
+        first = ltb-true oflt base (two .0);
+        last = leb-true end send (three .0);
+        each = every-at alike channels (three .1);
+      }
 
   module _ (base channels i : ℕ) (some : 1 ≤ i) (most : i ≤ channels) where
-    pub name-of-channel : meaningOf name ≡ Channel base channels → Name name × (channels ≤ entries) × Alike (base + (i - 1)) base
+    pub name-of-channel : meaningOf name ≡ Channel base channels →
+        Name name × (channels ≤ entries) × Alike (base + (i - 1)) base
     name-of-channel e =
-        let h = fits-name (Channel base channels) e in
-        let f = fit-first (alikeOne base) base (base + channels) channels h in
-        let l = fit-end (alikeOne base) base (base + channels) channels h in (
-          fit-name (alikeOne base) base (base + channels) channels h,
-          omega arith,
-          record {
-            inside = omega arith;
-            past = omega arith;
-            second = f;
-            rows = same-bytes _ _ (fit-at (alikeOne base) base (base + channels) channels h (i - 1) (omega arith));
-          },
-        )
+        let f = channels-fit (alikeOne base) base (base + channels) channels (fits-name (Channel base channels) e) in
+        let same = f .each (i - 1) (omega arith) in
+        (f .named, omega arith, alike-at (base + (i - 1)) base (omega arith) (omega arith) (f .first) same)
 
     pub name-of-pair : meaningOf name ≡ ChannelPair base channels →
         Name name × (channels ≤ entries) × Alike (base + 2 * (i - 1)) base × Alike (base + 2 * (i - 1) + 1) (base + 1)
     name-of-pair e =
         let h = fits-name (ChannelPair base channels) e in
-        let f = fit-first (alikeTwo base) base (base + 2 * channels) channels h in
-        let l = fit-end (alikeTwo base) base (base + 2 * channels) channels h in
-        let b = fit-at (alikeTwo base) base (base + 2 * channels) channels h (i - 1) (omega arith) in
-        let c = sameBytes (cells (base + 2 * (i - 1))) (cells base) in
-        let d = sameBytes (cells (base + 2 * (i - 1) + 1)) (cells (base + 1)) in (
-          fit-name (alikeTwo base) base (base + 2 * channels) channels h,
+        let f = channels-fit (alikeTwo base) base (base + 2 * channels) channels h in
+        let at = base + 2 * (i - 1) in
+        let c = sameBytes (cells at) (cells base) in
+        let d = sameBytes (cells (at + 1)) (cells (base + 1)) in
+        let both = and-eq-true-iff c d .0 (f .each (i - 1) (omega arith)) in (
+          f .named,
           omega arith,
-          record { inside = omega arith; past = omega arith; second = f; rows = same-bytes _ _ (and-first c d b) },
-          record { inside = omega arith; past = omega arith; second = omega arith; rows = same-bytes _ _ (and-second c d b) },
+          alike-at at base (omega arith) (omega arith) (f .first) (both .0),
+          alike-at (at + 1) (base + 1) (omega arith) (omega arith) (omega arith) (both .1),
         )

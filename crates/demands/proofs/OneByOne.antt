@@ -1,18 +1,18 @@
 -- A line's commands one by one: what a refused one changes, where the next one starts, which one the answer names.
 -- Assumes nothing.
-use Prim.Native.Nat.{ℕ, _+_, _-_, _^_, _≤_}
+use Prim.Native.Nat.{ℕ, zero, suc, _+_, _-_, _^_, _≤_, _<_}
 use native.Mathlib.Omega.{arith}
-use mathlib.Core.Logic.{_≢_, _⊎_, inl, inr}
+use mathlib.Core.Logic.{_≢_}
 use mathlib.Core.Path.{_≡_, refl, sym, ap, subst, _∙_}
 use mathlib.Core.Bool.{Bool, true, false, cond}
 use mathlib.Core.List.{List, [], _∷_, _++_, append-nil}
 use lib.Bits.{bitOr}
-use lib.ListN.{length}
+use lib.ListN.{length, getD}
+use borrow.Author.Tests.{eqb-true, eqb-false}
 use Rattle.refusal.specs.Meaning.{meaningOf}
 use Rattle.refusal.specs.declared.Refusal.{Refusal}
-use Rattle.refusal.specs.declared.Refusal.the-variants.{Malformed, OutOfRange, NotAllowed, NoRoom, LongLine}
-use Rattle.refusal.specs.declared.Refusal.the-variants.{BadEvent, NoReset, LongScriptLine, BadTraces}
-use Rattle.refusal.specs.declared.Refusal.the-variants.{BadStart, BadState}
+use Rattle.refusal.specs.declared.Refusal.the-variants.{Malformed, NoRoom}
+use Rattle.refusal.proofs.Every.{everyRefusal, by-number, same-refusal}
 use Rattle.refusal.specs.declared.Outcome.{Outcome}
 use Rattle.refusal.specs.declared.Outcome.the-variants.{Done, Refused}
 use Rattle.refusal.specs.declared.Answer.{Answer}
@@ -56,23 +56,22 @@ marked-only r i s e =
       unit = refl;
     }
 
+-- the refusals of a command have the first four numbers
 command-bit : (r : Refusal) → meaningOf r .number ≤ 4 → (i : ℕ) × OfCommand r i × (meaningOf r .bits ≡ 2 ^ i)
-command-bit Malformed n = (5, malformed, refl)
-command-bit OutOfRange n = (4, outOfRange, refl)
-command-bit NotAllowed n = (4, notAllowed, refl)
-command-bit NoRoom n = (2, noRoom, refl)
-command-bit LongLine n = absurd (omega arith)
-command-bit BadEvent n = absurd (omega arith)
-command-bit NoReset n = absurd (omega arith)
-command-bit LongScriptLine n = absurd (omega arith)
-command-bit BadTraces n = absurd (omega arith)
-command-bit BadStart n = absurd (omega arith)
-command-bit BadState n = absurd (omega arith)
+command-bit r h = rw (← by-number r) (at (meaningOf r .number - 1) (omega arith)) where
+  at : (n : ℕ) → n < 4 →
+      let q = getD everyRefusal n Malformed in (i : ℕ) × OfCommand q i × (meaningOf q .bits ≡ 2 ^ i)
+  at zero l = (5, malformed, refl)
+  at (suc zero) l = (4, outOfRange, refl)
+  at (suc (suc zero)) l = (4, notAllowed, refl)
+  at (suc (suc (suc zero))) l = (2, noRoom, refl)
+  at (suc (suc (suc (suc n)))) l = absurd (omega arith)
 
 -- ---- commands
 
-pub done-never : {A : Type 0} (r : Refusal) → Done ≡ Refused r → A
-done-never r p = let z : _≡_ {A = ℕ} 0 1 = cc in absurd (omega arith)
+-- anything follows where two different constructors would be equal
+pub never : {A : Type 0} → _≡_ {A = ℕ} 0 1 → A
+never z = absurd (omega arith)
 
 refused-command : (r : Refusal) → meaningOf r .number ≤ 4 → (s : State) (one two : List ℕ) →
     RefusedCommand r s one two (refusedBy r s one two)
@@ -94,9 +93,9 @@ unfolding doneBy
 command-refused room waiting text s one two refusal =
     command-by room waiting s one two
     (λ (e : Effect). e .outcome ≡ Refused refusal → RefusedCommand refusal s one two e)
-    (λ p. done-never refusal p)
+    (λ p. never (cc))
     (λ r n p. let same : r ≡ refusal = cc in rw (← same) (refused-command r n s one two))
-    (λ kind k a p. done-never refusal p)
+    (λ kind k a p. never (cc))
     (parsedOf text) (parsed-sane text)
 
 -- ---- one command of a line
@@ -161,20 +160,14 @@ module _ (room : ℕ) (text : List ℕ) (l : Line) where
     by Done p = takes (step-accepted p)
     by (Refused r) p = refuses r (step-refused r p)
 
--- of the refusals of a command only 4 drops the rest of the line
-crowds : (r : Refusal) (bit : ℕ) → OfCommand r bit → (r ≡ NoRoom) ⊎ (isNoRoom r ≡ false)
+-- only 4 drops the rest of the line
+no-room : (r : Refusal) → isNoRoom r ≡ true → r ≡ NoRoom
 unfolding isNoRoom
-crowds r bit malformed = inr refl
-crowds r bit outOfRange = inr refl
-crowds r bit notAllowed = inr refl
-crowds r bit noRoom = inl refl
+no-room r e = same-refusal r NoRoom (eqb-true _ _ e)
 
-crowds-not : (r : Refusal) → isNoRoom r ≡ false → r ≢ NoRoom
+room-left : (r : Refusal) → isNoRoom r ≡ false → r ≢ NoRoom
 unfolding isNoRoom
-crowds-not r e h =
-    let z : true ≡ false = ap isNoRoom (sym h) ∙ e in
-    let n : _≡_ {A = ℕ} 0 1 = cc in
-    omega arith
+room-left r e h = eqb-false _ _ e (ap (λ (q : Refusal). meaningOf q .number) h)
 
 -- ---- the commands of a line
 
@@ -196,15 +189,15 @@ module _ (room : ℕ) (P : List (List ℕ) → Line → Line → Type 0)
             let end = runAll room more (stepOf room text l) in
             subst (P (text ∷ more) l) (sym e) (goes text more l end c d rest)
 
-        run-refused : (r : Refusal) → RefusedStep r room text l → (r ≡ NoRoom) ⊎ (isNoRoom r ≡ false) →
+        run-refused : (r : Refusal) → RefusedStep r room text l → (t : Bool) → isNoRoom r ≡ t →
             P (text ∷ more) l (runAll room (text ∷ more) l)
         unfolding isNoRoom drops
-        run-refused r a (inl e) =
-            let b : RefusedStep NoRoom room text l = rw e at a in
+        run-refused r a true e =
+            let b : RefusedStep NoRoom room text l = rw (no-room r e) at a in
             subst (P (text ∷ more) l) (sym (b .next more))
             (drop text more l b (dropped-by room text l (Refused NoRoom) (b .told)))
-        run-refused r a (inr e) =
-            run-goes (demand.refused r a (crowds-not r e))
+        run-refused r a false e =
+            run-goes (demand.refused r a (room-left r e))
             (dropped-by room text l (Refused r) (a .told) ∙ e) (a .next more ∙ rw e)
 
         run-next : P (text ∷ more) l (runAll room (text ∷ more) l)
@@ -212,7 +205,7 @@ module _ (room : ℕ) (P : List (List ℕ) → Line → Line → Type 0)
         run-next =
             step-by room text l (P (text ∷ more) l (runAll room (text ∷ more) l))
             (λ a. run-goes (demand.accepted a) (dropped-by room text l Done (a .told)) (a .next more))
-            (λ r a. run-refused r a (crowds r (a .bit) (a .laid)))
+            (λ r a. run-refused r a (isNoRoom r) refl)
 
     run-by : (texts : List (List ℕ)) (l : Line) → P texts l (runAll room texts l)
     unfolding runAll
@@ -245,9 +238,6 @@ commands-are room =
 
 -- ---- the answer of a line
 
-pub passed-never : {A : Type 0} (r : Refusal) (place : ℕ) → answer.Passed ≡ answer.Refused r place → A
-passed-never r place p = let z : _≡_ {A = ℕ} 0 1 = cc in absurd (omega arith)
-
 -- a refusal that the line has stays its answer; a line without one passes where each command is accepted, and else the
 -- first refused one is its answer
 pub record Answering (room : ℕ) (texts : List (List ℕ)) (l end : Line) : Type 0 where
@@ -262,7 +252,7 @@ answering-ends room l =
     record {
       kept = λ r place e. e;
       passed = λ e f. demand.none l;
-      placed = λ e r place f. passed-never r place (sym e ∙ f);
+      placed = λ e r place f. never (cc);
     }
 
 module _ (room : ℕ) (text : List ℕ) (more : List (List ℕ)) (l end : Line) where
@@ -312,7 +302,7 @@ module _ (room : ℕ) (text : List ℕ) (more : List (List ℕ)) (l end : Line) 
       answering-refused =
           record {
             kept = kept-here;
-            passed = λ e f. passed-never r (l .count + 1) (sym f ∙ told-here e);
+            passed = λ e f. never (cc (told-here e));
             placed = λ e q place f.
                 let same : r ≡ q = cc (told-here e) in
                 let at : place ≡ l .count + 1 = cc (told-here e) in (

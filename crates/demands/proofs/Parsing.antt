@@ -25,7 +25,9 @@ use Rattle.settings.specs.Setting.{settingOf}
 use Rattle.settings.specs.Allowed.{keeps}
 use Rattle.settings.proofs.Rows.{row-size, row-decimals}
 use Rattle.command.specs.Arguments.{comma, arguments}
-use Rattle.command.specs.Parsed.{parsedOf, taken, wholeRange, wholeOf, one, two, three, alone, setWith, queryWith, setSetting, setChannel, setChannelPair, setEnable, queryEnable, queryChannel, queryChannelPair, queryTrace}
+use Rattle.command.specs.Parsed.{parsedOf, taken, wholeRange, wholeOf, one, two, three, alone, setWith, queryWith}
+use Rattle.command.specs.Parsed.{setSetting, setChannel, setChannelPair, setEnable}
+use Rattle.command.specs.Parsed.{queryEnable, queryChannel, queryChannelPair, queryTrace}
 use Rattle.command.proofs.Exact.{whole-is}
 use Rattle.command.specs.declared.SetArgument.the-variants as set
 use Rattle.command.specs.declared.QueryArgument.the-variants as query
@@ -33,13 +35,37 @@ use Rattle.command.specs.declared.Kind.{Kind}
 use Rattle.command.specs.declared.Kind.the-variants.{Set, Query}
 use Rattle.demands.specs.Written.{written}
 use Rattle.demands.proofs.Again.{whole, taken-whole, read-as, kept-size, written-again}
-use Rattle.demands.proofs.Bytes.{all, inNumber, inArguments, inCommand, all-append, in-arguments, in-command, parts-free, parts-joined, begins-other, cleaned-same, arguments-some, plain-bytes, plain-some, signed-bytes, signed-some}
+use Rattle.demands.proofs.Bytes.{all, inNumber, inArguments, inCommand, all-append, in-arguments, in-command}
+use Rattle.demands.proofs.Bytes.{parts-free, parts-joined, begins-other, cleaned-same, arguments-some}
+use Rattle.demands.proofs.Bytes.{plain-bytes, plain-some, signed-bytes, signed-some}
 use Rattle.demands.proofs.Meanings.{Name, Alike, alike-written, alike-keeps}
 use Rattle.demands.proofs.Says.{Says}
 
+-- several arguments, divided by ","
+text-one : (x : List ℕ) → 1 ≤ length x → all inNumber x ≡ true → arguments x ≡ x ∷ []
+text-one x h b = arguments-some x h ∙ parts-free inNumber comma refl x b
+
+text-two : (x y : List ℕ) → all inNumber x ≡ true → all inNumber y ≡ true → parts comma (x ++ comma ∷ y) ≡ x ∷ y ∷ []
+text-two x y b c = parts-joined inNumber comma refl x y b ∙ ap (λ l. x ∷ l) (parts-free inNumber comma refl y c)
+
+joined-some : (x y : List ℕ) → 1 ≤ length (x ++ comma ∷ y)
+joined-some x y = rw length-append (omega arith)
+
+text-three : (x y z : List ℕ) → all inNumber x ≡ true → all inNumber y ≡ true → all inNumber z ≡ true →
+    arguments (x ++ comma ∷ (y ++ comma ∷ z)) ≡ x ∷ y ∷ z ∷ []
+text-three x y z b c d =
+    let rest = y ++ comma ∷ z in
+    arguments-some (x ++ comma ∷ rest) (joined-some x rest) ∙ parts-joined inNumber comma refl x rest b
+    ∙ ap (λ l. x ∷ l) (text-two y z c d)
+
+joined-bytes : (x y : List ℕ) → all inNumber x ≡ true → all inArguments y ≡ true →
+    all inArguments (x ++ comma ∷ y) ≡ true
+joined-bytes x y b c = all-append inArguments x (comma ∷ y) (in-arguments x b) c
+
 -- a name of four bytes, and what follows it
 parsed-name : (name rest : List ℕ) → length name ≡ 4 →
-    parsedOf (name ++ rest) ≡ cond (begins 63 rest) (queryWith (meaningOf name) (arguments (drop 1 rest))) (setWith (meaningOf name) (arguments rest))
+    let m = meaningOf name in
+    parsedOf (name ++ rest) ≡ cond (begins 63 rest) (queryWith m (arguments (drop 1 rest))) (setWith m (arguments rest))
 unfolding parsedOf
 parsed-name [] rest h = absurd (omega arith)
 parsed-name (a ∷ []) rest h = absurd (omega arith)
@@ -50,19 +76,35 @@ parsed-name (a ∷ b ∷ c ∷ d ∷ e ∷ name) rest h = absurd (omega arith)
 
 -- a command of such a name, then "?", or other bytes of arguments
 module _ (name : List ℕ) (n : Name name) (m : Meaning) (means : meaningOf name ≡ m) (kind : Kind) where
-  says : (text : List ℕ) → length text ≤ 252 → all inCommand text ≡ true → parsedOf (name ++ text) ≡ taken kind → Says (name ++ text) kind
+  says : (text : List ℕ) → length text ≤ 252 → all inCommand text ≡ true → parsedOf (name ++ text) ≡ taken kind →
+      Says (name ++ text) kind
   says text l b e =
       let c = all-append inCommand name text (n .bytes) b in
-      record { short = rw length-append (omega (arith, n .four)); kept = cleaned-same (name ++ text) c; single = parts-free inCommand 59 refl (name ++ text) c; read = e }
+      record {
+        short = rw length-append (omega (arith, n .four));
+        kept = cleaned-same (name ++ text) c;
+        single = parts-free inCommand 59 refl (name ++ text) c;
+        read = e;
+      }
 
-  query-says : (args : List ℕ) → length args ≤ 251 → all inArguments args ≡ true → queryWith m (arguments args) ≡ taken kind → Says (name ++ (63 ∷ args)) kind
+  query-says : (args : List ℕ) → length args ≤ 251 → all inArguments args ≡ true →
+      queryWith m (arguments args) ≡ taken kind → Says (name ++ (63 ∷ args)) kind
   unfolding begins
   query-says args l b e =
       says (63 ∷ args) (omega arith) (in-command args b) (parsed-name name (63 ∷ args) (n .four) ∙ rw means e)
 
-  set-says : (args : List ℕ) → length args ≤ 252 → all inArguments args ≡ true → setWith m (arguments args) ≡ taken kind → Says (name ++ args) kind
+  set-says : (args : List ℕ) → length args ≤ 252 → all inArguments args ≡ true →
+      setWith m (arguments args) ≡ taken kind → Says (name ++ args) kind
   set-says args l b e =
-      says args l (in-command args b) (parsed-name name args (n .four) ∙ rw (begins-other inArguments 63 refl args b, means) e)
+      says args l (in-command args b)
+      (parsed-name name args (n .four) ∙ rw (begins-other inArguments 63 refl args b, means) e)
+
+  -- one whole number asked for, of up to five digits
+  number-says : (i : ℕ) → length (plain i) ≤ 5 → queryWith m (plain i ∷ []) ≡ taken kind →
+      Says (name ++ (63 ∷ plain i)) kind
+  number-says i l e =
+      query-says (plain i) (omega arith) (in-arguments (plain i) (plain-bytes i))
+      (rw (text-one (plain i) (plain-some i) (plain-bytes i)) e)
 
 -- a whole number's text is a number, and is taken as itself
 plain-signed : (i : ℕ) → plain i ≡ signedText 0 0 i
@@ -78,13 +120,15 @@ record Whole (low high i : ℕ) : Type 0 where
 
 whole-again : (low high i : ℕ) → low ≤ i → i ≤ high → high ≤ 99999 → Whole low high i
 whole-again low high i some most few =
-    let r = read-as 0 (plain i) (whole 0 i) (rw (plain-signed i) (read-again 0 0 i (omega arith) (omega arith) (omega arith))) in
+    let again = read-again 0 0 i (omega arith) (omega arith) (omega arith) in
+    let r = read-as 0 (plain i) (whole 0 i) (rw (plain-signed i) again) in
+    let range = wholeRange low high in
     record {
       short = plain-length 5 i (omega arith) (omega arith);
       number = r .number;
       value =
-          sym (whole-is low high (omega arith) (plain i)) ∙ ap (takenOf (wholeRange low high)) (r .kept)
-          ∙ taken-whole (wholeRange low high) i some most (omega arith) (omega arith) (omega arith) (mod-one (distance 0 i));
+          sym (whole-is low high (omega arith) (plain i)) ∙ ap (takenOf range) (r .kept)
+          ∙ taken-whole range i some most (omega arith) (omega arith) (omega arith) (mod-one (distance 0 i));
     }
 
 channel-again : (channels i : ℕ) → 1 ≤ i → i ≤ channels → channels ≤ entries → Whole 1 channels i
@@ -111,26 +155,6 @@ written-short entry v h =
     let few = row-decimals entry in
     signed-length 10 (rowOf entry .decimals) (rowOf entry .bias) v (omega arith) (omega arith)
 
--- several arguments, divided by ","
-text-one : (x : List ℕ) → 1 ≤ length x → all inNumber x ≡ true → arguments x ≡ x ∷ []
-text-one x h b = arguments-some x h ∙ parts-free inNumber comma refl x b
-
-text-two : (x y : List ℕ) → all inNumber x ≡ true → all inNumber y ≡ true → parts comma (x ++ comma ∷ y) ≡ x ∷ y ∷ []
-text-two x y b c = parts-joined inNumber comma refl x y b ∙ ap (λ l. x ∷ l) (parts-free inNumber comma refl y c)
-
-joined-some : (x y : List ℕ) → 1 ≤ length (x ++ comma ∷ y)
-joined-some x y = rw length-append (omega arith)
-
-text-three : (x y z : List ℕ) → all inNumber x ≡ true → all inNumber y ≡ true → all inNumber z ≡ true →
-    arguments (x ++ comma ∷ (y ++ comma ∷ z)) ≡ x ∷ y ∷ z ∷ []
-text-three x y z b c d =
-    let rest = y ++ comma ∷ z in
-    arguments-some (x ++ comma ∷ rest) (joined-some x rest) ∙ parts-joined inNumber comma refl x rest b
-    ∙ ap (λ l. x ∷ l) (text-two y z c d)
-
-joined-bytes : (x y : List ℕ) → all inNumber x ≡ true → all inArguments y ≡ true → all inArguments (x ++ comma ∷ y) ≡ true
-joined-bytes x y b c = all-append inArguments x (comma ∷ y) (in-arguments x b) c
-
 module _ (name : List ℕ) (n : Name name) where
   module _ (entry : ℕ) (means : meaningOf name ≡ Setting entry) where
     pub one-asked : Says (name ++ (63 ∷ [])) (Query (query.Value entry))
@@ -142,7 +166,8 @@ module _ (name : List ℕ) (n : Name name) where
     one-sent v h =
         let x = written entry v in
         let w = written-again entry v h in
-        set-says name n (Setting entry) means (Set (set.Value entry v)) x (omega (arith, written-short entry v h)) (in-arguments x (written-bytes entry v))
+        set-says name n (Setting entry) means (Set (set.Value entry v)) x (omega (arith, written-short entry v h))
+        (in-arguments x (written-bytes entry v))
         (rw (text-one x (signed-some _ _ v) (written-bytes entry v), w .number, w .value))
 
   module _ (which : Register) (means : meaningOf name ≡ Enable which) where
@@ -164,8 +189,8 @@ module _ (name : List ℕ) (n : Name name) where
       unfolding queryWith queryChannel one
       channel-asked =
           let c = channel-again channels i some most few in
-          query-says name n (Channel base channels) means (Query (query.Value (base + (i - 1)))) (plain i) (omega arith) (in-arguments (plain i) (plain-bytes i))
-          (rw (text-one (plain i) (plain-some i) (plain-bytes i), c .number, c .value))
+          number-says name n (Channel base channels) means (Query (query.Value (base + (i - 1)))) i (c .short)
+          (rw (c .number, c .value))
 
       pub channel-sent : (v : ℕ) → Alike (base + (i - 1)) base → keeps (base + (i - 1)) v ≡ true →
           Says (name ++ (plain i ++ comma ∷ written (base + (i - 1)) v)) (Set (set.Value (base + (i - 1)) v))
@@ -178,19 +203,27 @@ module _ (name : List ℕ) (n : Name name) where
           set-says name n (Channel base channels) means (Set (set.Value e v)) (plain i ++ comma ∷ x)
           (rw length-append (omega (arith, c .short, written-short e v h)))
           (joined-bytes (plain i) x (plain-bytes i) (in-arguments x (written-bytes e v)))
-          (rw (arguments-some (plain i ++ comma ∷ x) (joined-some (plain i) x), text-two (plain i) x (plain-bytes i) (written-bytes e v), c .number, w .number, c .value, w .value))
+          (rw (
+            arguments-some (plain i ++ comma ∷ x) (joined-some (plain i) x),
+            text-two (plain i) x (plain-bytes i) (written-bytes e v),
+            c .number,
+            w .number,
+            c .value,
+            w .value,
+          ))
 
     module _ (means : meaningOf name ≡ ChannelPair base channels) where
       pub pair-asked : Says (name ++ (63 ∷ plain i)) (Query (query.Pair (base + 2 * (i - 1))))
       unfolding queryWith queryChannelPair one
       pair-asked =
           let c = channel-again channels i some most few in
-          query-says name n (ChannelPair base channels) means (Query (query.Pair (base + 2 * (i - 1)))) (plain i) (omega arith) (in-arguments (plain i) (plain-bytes i))
-          (rw (text-one (plain i) (plain-some i) (plain-bytes i), c .number, c .value))
+          number-says name n (ChannelPair base channels) means (Query (query.Pair (base + 2 * (i - 1)))) i (c .short)
+          (rw (c .number, c .value))
 
       pub pair-sent : (v w : ℕ) → Alike (base + 2 * (i - 1)) base → Alike (base + 2 * (i - 1) + 1) (base + 1) →
-          keeps (base + 2 * (i - 1)) v ≡ true → keeps (base + 2 * (i - 1) + 1) w ≡ true →
-          Says (name ++ (plain i ++ comma ∷ (written (base + 2 * (i - 1)) v ++ comma ∷ written (base + 2 * (i - 1) + 1) w))) (Set (set.Pair (base + 2 * (i - 1)) v w))
+          let e = base + 2 * (i - 1) in
+          keeps e v ≡ true → keeps (e + 1) w ≡ true →
+          Says (name ++ (plain i ++ comma ∷ (written e v ++ comma ∷ written (e + 1) w))) (Set (set.Pair e v w))
       unfolding setWith setChannelPair three
       pair-sent v w a b h k =
           let e = base + 2 * (i - 1) in
@@ -202,7 +235,8 @@ module _ (name : List ℕ) (n : Name name) where
           let q = fits-alike (e + 1) (base + 1) w b k in
           set-says name n (ChannelPair base channels) means (Set (set.Pair e v w)) (plain i ++ comma ∷ rest)
           (rw (length-append, length-append) (omega (arith, c .short, written-short e v h, written-short (e + 1) w k)))
-          (joined-bytes (plain i) rest (plain-bytes i) (joined-bytes x y (written-bytes e v) (in-arguments y (written-bytes (e + 1) w))))
+          (joined-bytes (plain i) rest (plain-bytes i)
+          (joined-bytes x y (written-bytes e v) (in-arguments y (written-bytes (e + 1) w))))
           (rw (
             text-three (plain i) x y (plain-bytes i) (written-bytes e v) (written-bytes (e + 1) w),
             c .number,
@@ -214,8 +248,10 @@ module _ (name : List ℕ) (n : Name name) where
           ))
 
   -- a trace query
-  pub trace-asked : (form : Form) (t bin count : ℕ) → meaningOf name ≡ Trace form → 1 ≤ t → t ≤ 2 → bin ≤ 16383 → 1 ≤ count →
-      count ≤ 16383 → Says (name ++ (63 ∷ (plain t ++ comma ∷ (plain bin ++ comma ∷ plain count)))) (Query (query.Trace form t bin count))
+  pub trace-asked : (form : Form) (t bin count : ℕ) → meaningOf name ≡ Trace form → 1 ≤ t → t ≤ 2 → bin ≤ 16383 →
+      1 ≤ count → count ≤ 16383 →
+      let text = plain t ++ comma ∷ (plain bin ++ comma ∷ plain count) in
+      Says (name ++ (63 ∷ text)) (Query (query.Trace form t bin count))
   unfolding queryWith queryTrace three
   trace-asked form t bin count means low high far some most =
       let x = whole-again 1 2 t low high (omega arith) in

@@ -8,40 +8,27 @@ use mathlib.Core.Path.{_≡_, refl, sym, ap, _∙_}
 use lib.Dec.{leb, eqb}
 use lib.ListN.{length, take, drop, length-drop}
 use lib.Seq.{drop-cons, getD-drop}
-use borrow.Author.Tests.{le-leb}
 use Rattle.divide.specs.Ascii.{bytes}
 use Rattle.divide.specs.Divide.{parts, onHead}
 use Rattle.clean.specs.Clean.{cleaned}
 use Rattle.number.specs.Number.{begins}
 use Rattle.text.specs.Text.{plain}
-use Rattle.refusal.specs.Answer.{firstOf, drops}
-use Rattle.refusal.specs.declared.Refusal.the-variants.{NotAllowed}
-use Rattle.refusal.specs.declared.Outcome.the-variants.{Done}
-use Rattle.refusal.specs.declared.Answer.the-variants as answer
 use Rattle.name.specs.Names.{meaningIn, meaningOf}
 use Rattle.name.specs.declared.Meaning.the-variants as meaning
 use Rattle.name.specs.declared.Form.{Form}
 use Rattle.name.specs.declared.Form.the-variants.{Words, Floats}
 use Rattle.command.specs.Arguments.{arguments}
 use Rattle.command.specs.Parsed.{parsedOf, alone, queryWith}
-use Rattle.command.specs.declared.QueryArgument.{QueryArgument}
 use Rattle.command.specs.declared.QueryArgument.the-variants as query
 use Rattle.command.specs.declared.Kind.the-variants.{Query}
 use Rattle.storage.specs.Storage.{oldestOf, holdsOf}
-use Rattle.state.specs.Storing.{storedIn}
 use Rattle.state.specs.declared.State.{State}
-use Rattle.allow.specs.Allows.{queryAllowed, allowsOf}
+use Rattle.allow.specs.Allows.{queryAllowed}
 use Rattle.change.specs.Change.{settingsAfter, storageAfter, externalAfter, movingAfter, registersAsked, registersAfter}
 use Rattle.change.specs.Change.{enablesAfter, changedBy, stateAfter}
-use Rattle.reply.specs.Reply.{fitsIn, wordAt, pointBytes}
+use Rattle.reply.specs.Reply.{wordAt, pointBytes}
 use Rattle.reply_text.specs.ReplyText.{textOf, endOf}
-use Rattle.answer.specs.Reply.{endedText, traceOf, traceReply, queryReply, replyOf}
-use Rattle.line.specs.Perform.{doneBy, performed}
-use Rattle.line.specs.Line.{afterOf}
-use Rattle.module.specs.Module.{guardOf}
-use Rattle.module.specs.declared.Module.{Module}
-use Rattle.lockin.specs.Calls.{lineCall}
-use Rattle.demands.specs.Demand2.{answered}
+use Rattle.answer.specs.Reply.{endedText, traceOf, traceReply, queryReply}
 use Rattle.demands.specs.Points.{History, InSlots, pairAt, Holds, heldOf, wordOf, sentOf, traceName, traceQuery}
 use Rattle.demands.proofs.Meanings.{Name}
 use Rattle.demands.proofs.Says.{Says}

@@ -1,2 +1,3 @@
 -- Laws of the list of names.
+pub mod Rule
 pub mod Words

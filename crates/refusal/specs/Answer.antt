@@ -1,9 +1,11 @@
--- A line's answer, which refusal drops the rest of a line, and what is told: document 01, "Refusal numbers" and "Lines and commands".
+-- A line's answer, which refusal drops the rest of a line, and what is told: document 01, "Refusal numbers" and
+-- "Lines and commands".
 use Prim.Native.Nat.{ℕ}
-use mathlib.Core.Bool.{Bool, true, false}
+use mathlib.Core.Bool.{Bool, false}
+use lib.Dec.{eqb}
 use Rattle.refusal.specs.Meaning.{meaningOf}
 use Rattle.refusal.specs.declared.Refusal.{Refusal}
-use Rattle.refusal.specs.declared.Refusal.the-variants.{Malformed, OutOfRange, NotAllowed, NoRoom, LongLine, BadEvent, NoReset, LongScriptLine, BadTraces, BadStart, BadState}
+use Rattle.refusal.specs.declared.Refusal.the-variants.{NoRoom}
 use Rattle.refusal.specs.declared.Outcome.{Outcome}
 use Rattle.refusal.specs.declared.Outcome.the-variants as outcome
 use Rattle.refusal.specs.declared.Answer.{Answer}
@@ -11,30 +13,22 @@ use Rattle.refusal.specs.declared.Answer.the-variants.{Passed, Refused}
 use Rattle.refusal.specs.declared.Told.{Told}
 use Rattle.refusal.specs.declared.Numbers.{Numbers}
 
--- "A line's answer is its first refusal and place .., or 0."
+-- a line's answer is its first refusal, with the place of its command
 unfoldable pub firstOf : Answer → Outcome → ℕ → Answer
 firstOf Passed outcome.Done place = Passed
 firstOf Passed (outcome.Refused r) place = Refused r place
 firstOf (Refused r earlier) told place = Refused r earlier
 
--- "A refused command does not stop the rest of the line, save under 4"
+-- a refused command does not stop the rest of its line, but for refusal 4
 unfoldable pub isNoRoom : Refusal → Bool
-isNoRoom Malformed = false
-isNoRoom OutOfRange = false
-isNoRoom NotAllowed = false
-isNoRoom NoRoom = true
-isNoRoom LongLine = false
-isNoRoom BadEvent = false
-isNoRoom NoReset = false
-isNoRoom LongScriptLine = false
-isNoRoom BadTraces = false
-isNoRoom BadStart = false
-isNoRoom BadState = false
+isNoRoom r = eqb (meaningOf r .number) (meaningOf NoRoom .number)
 
+-- whether an outcome drops the rest of its line
 unfoldable pub drops : Outcome → Bool
 drops outcome.Done = false
 drops (outcome.Refused r) = isNoRoom r
 
+-- what a call tells about a line: its answer, and the length of its reply
 abbrev pub toldOf : Answer → ℕ → Told
 toldOf a n = record { answer = a; length = n }
 

@@ -1,27 +1,35 @@
--- The number and the standard event bits of each refusal: document 01, "Refusal numbers" and "Events, status, identity".
+-- The number and the standard event bits of each refusal: document 01, "Refusal numbers" and "Events, status,
+-- identity".
 use Prim.Native.Nat.{ℕ, _^_}
 use Rattle.refusal.specs.declared.Refusal.{Refusal}
-use Rattle.refusal.specs.declared.Refusal.the-variants.{Malformed, OutOfRange, NotAllowed, NoRoom, LongLine, BadEvent, NoReset, LongScriptLine, BadTraces, BadStart, BadState}
+use Rattle.refusal.specs.declared.Refusal.the-variants.{Malformed, OutOfRange, NotAllowed, NoRoom, LongLine}
+use Rattle.refusal.specs.declared.Refusal.the-variants.{BadEvent, NoReset, LongScriptLine, BadTraces}
+use Rattle.refusal.specs.declared.Refusal.the-variants.{BadStart, BadState}
 use Rattle.refusal.specs.declared.Meaning.{Meaning}
 use Rattle.refusal.specs.declared.Outcome.{Outcome}
 use Rattle.refusal.specs.declared.Outcome.the-variants.{Done, Refused}
 
--- "Standard event bits: 0 INP, 2 QRY, 4 EXE, 5 CMD"
+-- standard event bit 0, INP: a line was too long
 abbrev pub inp : ℕ
 inp = 2 ^ 0
 
+-- standard event bit 2, QRY: a reply had no room
 abbrev pub qry : ℕ
 qry = 2 ^ 2
 
+-- standard event bit 4, EXE: a command could not be done
 abbrev pub exe : ℕ
 exe = 2 ^ 4
 
+-- standard event bit 5, CMD: a text is no command
 abbrev pub cmd : ℕ
 cmd = 2 ^ 5
 
+-- no bit
 abbrev pub none : ℕ
 none = 0
 
+-- a row of the table
 abbrev numbered : ℕ → ℕ → Meaning
 numbered n b = record { number = n; bits = b }
 

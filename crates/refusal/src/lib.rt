@@ -1,7 +1,8 @@
-// The refusals of document 01, with the number and the standard event bit of each; a line's answer, its first refusal, and what is told of it.
+// The refusals of document 01, with the number and the standard event bit of each; a line's answer, which is its first
+// refusal, and what a call tells its caller about a line.
 ghost use mathlib.Core.Path.{_≡_};
 ghost use Rattle.refusal.specs.Meaning.{meaningOf, numberOf};
-ghost use Rattle.refusal.specs.Answer.{firstOf, isNoRoom, drops, numbersOf};
+ghost use Rattle.refusal.specs.Answer.{firstOf, drops, numbersOf};
 
 // Why a command, a line, an event, a script or a state is not taken.
 pub enum Refusal {
@@ -31,13 +32,17 @@ pub enum Refusal {
 
 // What is told of a command, a line, an event or a start: done, or refused.
 pub enum Outcome {
+    // Nothing is refused.
     Done,
+    // Refused, and why.
     Refused(Refusal),
 }
 
 // A line's answer: nothing refused, or the first refusal and the place of its command, from 1.
 pub enum Answer {
+    // No command is refused.
     Passed,
+    // Why a command is refused, and its place.
     Refused(Refusal, u32),
 }
 
@@ -67,14 +72,22 @@ pub struct Meaning {
     pub bits: u8,
 }
 
-const INP: u8 = 1;
+// Standard event bit 0: a line was too long.
+const INP: u8 = 1 << 0;
 
-const QRY: u8 = 4;
+// Standard event bit 2: a reply had no room.
+const QRY: u8 = 1 << 2;
 
-const EXE: u8 = 16;
+// Standard event bit 4: a command could not be done.
+const EXE: u8 = 1 << 4;
 
-const CMD: u8 = 32;
+// Standard event bit 5: a text is no command.
+const CMD: u8 = 1 << 5;
 
+// The number of the refusal for a reply that exceeds the room left.
+const NO_ROOM: u8 = 4;
+
+// The table of refusals, row by row: the number and the standard event bits of each.
 pub fn meaning_of(refusal: Refusal) -> Meaning
     ensures { λ r. ⌜ r ≡ meaningOf refusal ⌝ }
 {
@@ -92,7 +105,7 @@ pub fn meaning_of(refusal: Refusal) -> Meaning
             bits: EXE,
         },
         Refusal::NoRoom => Meaning {
-            number: 4,
+            number: NO_ROOM,
             bits: QRY,
         },
         Refusal::LongLine => Meaning {
@@ -120,10 +133,7 @@ pub fn number_of(outcome: Outcome) -> u8
 {
     match outcome {
         Outcome::Done => 0,
-        Outcome::Refused(refusal) => {
-            let meaning = meaning_of(refusal);
-            meaning.number
-        }
+        Outcome::Refused(refusal) => meaning_of(refusal).number,
     }
 }
 
@@ -140,31 +150,13 @@ pub fn first_of(answer: Answer, outcome: Outcome, place: u32) -> Answer
     }
 }
 
-fn is_no_room(refusal: Refusal) -> bool
-    ensures { λ r. ⌜ r ≡ isNoRoom refusal ⌝ }
-{
-    match refusal {
-        Refusal::Malformed => false,
-        Refusal::OutOfRange => false,
-        Refusal::NotAllowed => false,
-        Refusal::NoRoom => true,
-        Refusal::LongLine => false,
-        Refusal::BadEvent => false,
-        Refusal::NoReset => false,
-        Refusal::LongScriptLine => false,
-        Refusal::BadTraces => false,
-        Refusal::BadStart => false,
-        Refusal::BadState => false,
-    }
-}
-
 // Whether an outcome drops the rest of the line.
 pub fn drops(outcome: Outcome) -> bool
     ensures { λ r. ⌜ r ≡ drops outcome ⌝ }
 {
     match outcome {
         Outcome::Done => false,
-        Outcome::Refused(refusal) => is_no_room(refusal),
+        Outcome::Refused(refusal) => meaning_of(refusal).number == NO_ROOM,
     }
 }
 
@@ -179,13 +171,10 @@ pub fn numbers_of(told: Told) -> Numbers
             place: 0,
             length: told.length,
         },
-        Answer::Refused(refusal, place) => {
-            let meaning = meaning_of(refusal);
-            Numbers {
-                refusal: meaning.number,
-                place,
-                length: told.length,
-            }
-        }
+        Answer::Refused(refusal, place) => Numbers {
+            refusal: meaning_of(refusal).number,
+            place,
+            length: told.length,
+        },
     }
 }

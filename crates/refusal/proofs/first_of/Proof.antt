@@ -4,31 +4,11 @@ use Rattle.refusal.specs.Answer.{firstOf}
 use Rattle.refusal.proofs.first_of.Statement.{statement}
 use Rattle.refusal.proofs.first_of.Tie as tie
 
-enum-told : tie.Need-enum-told
-enum-told c = search needs
-
-enum-told-2 : tie.Need-enum-told-2
-enum-told-2 c = search needs
-
-enum-told-3 : tie.Need-enum-told-3
-enum-told-3 c = search needs
-
-enum-known-outcome : tie.Need-enum-known-outcome
-enum-known-outcome c = search needs
-
-returns : tie.Need-returns
-unfolding firstOf
-returns c = rw (c .enum-told .given .1)
-
-returns-2 : tie.Need-returns-2
-unfolding firstOf
-returns-2 c = rw (c .enum-told3 .given .1, c .before .before .enum-told2 .given .1)
-
-returns-3 : tie.Need-returns-3
-unfolding firstOf
-returns-3 c = rw (c .before .before .before .enum-told2 .given .1, c .before .outcome .given .1)
-
 pub first-of-spec : {M : Type 1} → statement M
+unfolding firstOf
 first-of-spec =
     tie.close
-    (tie.spec enum-told enum-told-2 enum-told-3 enum-known-outcome returns returns-2 returns-3)
+    (tie.spec (λ c. search needs) (λ c. search needs) (λ c. search needs) (λ c. search needs)
+    (λ c. rw (c .enum-told .given .1))
+    (λ c. rw (c .enum-told3 .given .1, c .before .before .enum-told2 .given .1))
+    (λ c. rw (c .before .before .before .enum-told2 .given .1, c .before .outcome .given .1)))
