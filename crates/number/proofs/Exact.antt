@@ -37,14 +37,14 @@ module _ (a b d x : ℕ) (h : x < d) where
   part-below =
       cond-by (λ n. leb (a * d + x) (b * d) ≡ leb (a + 1) (b + n)) (eqb x 0)
       (λ z. let o : x ≡ 0 = eqb-true x 0 z in
-        same-test (a * d + x) (b * d) (a + 1) (b + 1)
-        (λ p. let l : a * d < (b + 1) * d = rw (add-mul b 1 d, one-mul d) (omega arith) in
-          omega (arith, lt-of-mul-lt-mul-right d l))
-        (λ p. let l : a ≤ b = omega arith in omega (arith, mul-le-mul-right d l)))
+      same-test (a * d + x) (b * d) (a + 1) (b + 1)
+      (λ p. let l : a * d < (b + 1) * d = rw (add-mul b 1 d, one-mul d) (omega arith) in
+      omega (arith, lt-of-mul-lt-mul-right d l))
+      (λ p. let l : a ≤ b = omega arith in omega (arith, mul-le-mul-right d l)))
       (λ z. let o : 0 < x = omega (arith, eqb-false x 0 z) in
-        same-test (a * d + x) (b * d) (a + 1) (b + 0)
-        (λ p. let l : a * d < b * d = omega arith in omega (arith, lt-of-mul-lt-mul-right d l))
-        (λ p. let l : a + 1 ≤ b = omega arith in omega (arith, mul-le-mul-right d l, add-mul a 1 d, one-mul d)))
+      same-test (a * d + x) (b * d) (a + 1) (b + 0)
+      (λ p. let l : a * d < b * d = omega arith in omega (arith, lt-of-mul-lt-mul-right d l))
+      (λ p. let l : a + 1 ≤ b = omega arith in omega (arith, mul-le-mul-right d l, add-mul a 1 d, one-mul d)))
 
   twice : (k : ℕ) → (2 * a + k) * d ≡ 2 * (a * d) + k * d
   twice k = add-mul (2 * a) k d ∙ rw (mul-assoc 2 a d)
@@ -53,13 +53,13 @@ module _ (a b d x : ℕ) (h : x < d) where
   part-half =
       cond-by (λ n. leb (b * d) (2 * (a * d + x)) ≡ leb b (2 * a + n)) (leb d (2 * x))
       (λ z. let o : d ≤ 2 * x = leb-true d (2 * x) z in
-        same-test (b * d) (2 * (a * d + x)) b (2 * a + 1)
-        (λ p. let l : b * d < (2 * a + 2) * d = omega (arith, twice 2) in omega (arith, lt-of-mul-lt-mul-right d l))
-        (λ p. omega (arith, twice 1, mul-le-mul-right d p)))
+      same-test (b * d) (2 * (a * d + x)) b (2 * a + 1)
+      (λ p. let l : b * d < (2 * a + 2) * d = omega (arith, twice 2) in omega (arith, lt-of-mul-lt-mul-right d l))
+      (λ p. omega (arith, twice 1, mul-le-mul-right d p)))
       (λ z. let o : 2 * x < d = leb-false d (2 * x) z in
-        same-test (b * d) (2 * (a * d + x)) b (2 * a + 0)
-        (λ p. let l : b * d < (2 * a + 1) * d = omega (arith, twice 1) in omega (arith, lt-of-mul-lt-mul-right d l))
-        (λ p. omega (arith, twice 0, mul-le-mul-right d p)))
+      same-test (b * d) (2 * (a * d + x)) b (2 * a + 0)
+      (λ p. let l : b * d < (2 * a + 1) * d = omega (arith, twice 1) in omega (arith, lt-of-mul-lt-mul-right d l))
+      (λ p. omega (arith, twice 0, mul-le-mul-right d p)))
 
 -- a number as it is kept, with no cap
 abbrev kept : Exact → Quantity
@@ -130,8 +130,8 @@ module _ (v : Exact) (pos : 0 < v .under) where
       let n = v .over / v .under in
       cond-by (λ k. k ≤ 4294967295) (v .negative) (λ e. omega arith)
       (λ e. let both = rw e at p in
-        let l = leb-true (r .bias + n + 1) (r .high + cond (isWhole v) 1 0) (and-second (leb (r .low) _) _ both) in
-        omega (arith, one-at-most (isWhole v), rounded-le (r .step)))
+      let l = leb-true (r .bias + n + 1) (r .high + cond (isWhole v) 1 0) (and-second (leb (r .low) _) _ both) in
+      omega (arith, one-at-most (isWhole v), rounded-le (r .step)))
 
   value-small : (r : Range) → Small r → fitsRange r (kept v) ≡ true → valueIn r (kept v) ≡ Value (placedIn r (kept v))
   unfolding valueIn
@@ -142,10 +142,10 @@ module _ (v : Exact) (pos : 0 < v .under) where
   takes r small =
       split (ltb (v .over / v .under) cap)
       (λ p. let l : v .over / v .under ≤ cap = omega (arith, ltb-true (v .over / v .under) cap p) in
-        rw (min-eq-right l, p, in-range r, placed-is r)
-        (split (fitsRange r (kept v)) (λ f. rw (value-small r small f)) (λ f. rw f)))
+      rw (min-eq-right l, p, in-range r, placed-is r)
+      (split (fitsRange r (kept v)) (λ f. rw (value-small r small f)) (λ f. rw f)))
       (λ p. let l : cap ≤ v .over / v .under = ltb-false (v .over / v .under) cap p in
-        rw (min-eq-left l, in-range r, past r small l))
+      rw (min-eq-left l, in-range r, past r small l))
 
 -- taking what is kept of a number is taking the number
 pub taken-exact : TakenExact

@@ -103,7 +103,7 @@ module _ (w : ℕ) where
   float-lt =
       split (isLegal w)
       (λ l. split (eqb (magnitudeOf w) 0) (λ z. rw (no-magnitude w l (eqb-true (magnitudeOf w) 0 z)) (lit< tt))
-        (λ z. same-lt w l (eqb-false (magnitudeOf w) 0 z)))
+      (λ z. same-lt w l (eqb-false (magnitudeOf w) 0 z)))
       (λ l. rw (no-point w l) (lit< tt))
 
 pub exact : (w : ℕ) → Exact w

@@ -44,7 +44,7 @@ unfolding droppedOf
 fed-length q port b mark k =
     split (q .dropping) (λ d. rw (fed-dropped q port b mark d) (facts q port k .fits))
     (λ d. split (endsLine port b) (λ e. rw (fed-ends q port b mark d e) (facts q port k .fits))
-      (λ e. rw (fed-added q port b mark d e) (added-length q b (isMarked port mark))))
+    (λ e. rw (fed-added q port b mark d e) (added-length q b (isMarked port mark))))
 
 -- ---- the storage stays as long as it is
 
@@ -60,7 +60,7 @@ unfolding droppedOf
 fed-bytes q port b mark =
     split (q .dropping) (λ d. rw (fed-dropped q port b mark d))
     (λ d. split (endsLine port b) (λ e. rw (fed-ends q port b mark d e))
-      (λ e. rw (fed-added q port b mark d e) (added-bytes q b (isMarked port mark))))
+    (λ e. rw (fed-added q port b mark d e) (added-bytes q b (isMarked port mark))))
 
 -- ---- a line's bytes
 

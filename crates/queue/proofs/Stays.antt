@@ -52,4 +52,4 @@ module _ (q : Queue) (port : ℕ) (k : keepsOf q port ≡ true) where
       split (q .dropping)
       (λ d. rw (fed-dropped q port b mark d) (dropped-keeps (endsLine port b || isMarked port mark) d))
       (λ d. split (endsLine port b) (λ e. rw (fed-ends q port b mark d e) k)
-        (λ e. rw (fed-added q port b mark d e) (added-keeps b long d e (isMarked port mark))))
+      (λ e. rw (fed-added q port b mark d e) (added-keeps b long d e (isMarked port mark))))

@@ -66,8 +66,8 @@ module _ (port : ℕ) (bytes : List ℕ) (len i : ℕ) (fits : len ≤ length by
       split (ltb (i + n) len)
       (λ l. rw e (sym (rest-goes-on port bytes len (i + n) fits (ltb-true _ _ l) (clear n (omega arith))) ∙ ih))
       (λ l. let past = ltb-false (i + n) len l in
-        let none = rest-none port bytes len ((i + n) + 1) fits (omega arith) in
-        rw e (none ∙ sym (rest-none port bytes len (i + n) fits past) ∙ ih))
+      let none = rest-none port bytes len ((i + n) + 1) fits (omega arith) in
+      rw e (none ∙ sym (rest-none port bytes len (i + n) fits past) ∙ ih))
 
 -- one byte more in a queue with room
 pub waiting-more : (q : Queue) (b : ℕ) → q .len < length (q .bytes) → waitingBytes (longer q b) ≡ waitingBytes q ++ (b ∷ [])

@@ -146,8 +146,8 @@ read-is decimals s =
     let u = unsigned s in
     split (hasExponent u) (λ p. split (isExponent (after letterE u)) (λ q. rw (p, q)) (λ q. rw (p, q)))
     (λ p. let l : span letterE u ≡ length u =
-      omega (arith, span-le letterE u, ltb-false (span letterE u) (length u) p) in
-      rw (p, l, take-length u, add-zero decimals))
+    omega (arith, span-le letterE u, ltb-false (span letterE u) (length u) p) in
+    rw (p, l, take-length u, add-zero decimals))
 
 pub read-none : (decimals : ℕ) (s : List ℕ) → length s < 1 → NotNumber ≡ readOf decimals s
 unfolding readOf isNumber isMantissa unsigned span

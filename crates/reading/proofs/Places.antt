@@ -75,15 +75,15 @@ half-digit : (b p r : ℕ) → 0 < p → r < p → 48 ≤ b → leb (p * 10) (2 
 half-digit b p r hp hr hb =
     split (leb 53 b)
     (λ z. let l : 5 ≤ b - 48 = omega (arith, leb-true 53 b z) in
-      rw (z, le-leb (p * 10) (2 * ((b - 48) * p + r)) (omega (arith, mul-le-mul-right p l))))
+    rw (z, le-leb (p * 10) (2 * ((b - 48) * p + r)) (omega (arith, mul-le-mul-right p l))))
     (λ z. let l : b - 48 ≤ 4 = omega (arith, leb-false 53 b z) in
-      rw (z, lt-leb (p * 10) (2 * ((b - 48) * p + r)) (omega (arith, mul-le-mul-right p l))))
+    rw (z, lt-leb (p * 10) (2 * ((b - 48) * p + r)) (omega (arith, mul-le-mul-right p l))))
 
 zero-digit : (b p r : ℕ) → 0 < p → 48 ≤ b → eqb ((b - 48) * p + r) 0 ≡ (eqb b 48 && eqb r 0)
 zero-digit b p r hp hb =
     split (eqb b 48) (λ z. rw (eqb-true b 48 z, zero-mul p, zero-add r))
     (λ z. let l : 1 ≤ b - 48 = omega (arith, eqb-false b 48 z) in
-      rw (z, ne-eqb ((b - 48) * p + r) 0 (λ e. omega (arith, mul-le-mul-right p l))))
+    rw (z, ne-eqb ((b - 48) * p + r) 0 (λ e. omega (arith, mul-le-mul-right p l))))
 
 module _ (ds : List ℕ) (all : allDigits ds ≡ true) where
   digit-low : (k : ℕ) → digit ds k < 10
@@ -112,11 +112,11 @@ module _ (ds : List ℕ) (all : allDigits ds ≡ true) where
         drop-cons ds k 48 (ltb-true k (length ds) p),
         places-first ds k n,
         zero-digit (getD ds k 48) (10 ^ n) (places ds (suc k) n) (one-le-pow n 10 (omega arith))
-        (digit-range ds all k .0),
+            (digit-range ds all k .0),
         rest-zero n (suc k) (omega arith),
       ))
       (λ p. let l = ltb-false k (length ds) p in
-        rw (places-past ds k (suc n) l, drop-of-length-le ds {i = k} l))
+      rw (places-past ds k (suc n) l, drop-of-length-le ds {i = k} l))
 
 module _ (negative : Bool) (front back : List ℕ) (up down : ℕ) (all : allDigits (front ++ back) ≡ true) where
   over-is : decimal (front ++ back) * 10 ^ up ≡ places (front ++ back) 0 (length front + length back + up)

@@ -31,12 +31,12 @@ pub lines-first : (s : List ℕ) → 0 < length s → linesOf s ≡ take (span 1
 lines-first s h =
     split (ltb (span 10 s) (length s))
     (λ e. let rest = drop (suc (span 10 s)) s in
-      ap withoutLast (parts-more 10 s (ltb-true (span 10 s) (length s) e))
-      ∙ more-lines (take (span 10 s) s) _ (parts 10 rest) _ (parts-first 10 rest))
+    ap withoutLast (parts-more 10 s (ltb-true (span 10 s) (length s) e))
+    ∙ more-lines (take (span 10 s) s) _ (parts 10 rest) _ (parts-first 10 rest))
     (λ e. let k : span 10 s ≡ length s = omega (arith, ltb-false (span 10 s) (length s) e, span-le 10 s) in
-      ap withoutLast (parts-last 10 s k)
-      ∙ last-line s h
-      ∙ rw (k, take-all (length s) s (omega arith), drop-of-length-le s {i = suc (length s)} (omega arith), no-lines))
+    ap withoutLast (parts-last 10 s k)
+    ∙ last-line s h
+    ∙ rw (k, take-all (length s) s (omega arith), drop-of-length-le s {i = suc (length s)} (omega arith), no-lines))
 
 pub lines-none : (s : List ℕ) (a : ℕ) → length s ≤ a → linesOf (drop a s) ≡ []
 lines-none s a h = rw (drop-of-length-le s {i = a} h) no-lines

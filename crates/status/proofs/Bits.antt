@@ -153,7 +153,7 @@ unfolding withBit
 with-other x i value j d =
     cond-by (λ y. bitOf y j ≡ bitOf x j) (ltb i 8)
     (λ small. cond-by (λ y. bitOf y j ≡ bitOf x j) (eqb value 0) (λ none. without-other x i j d)
-      (λ some. bit-or x (2 ^ i) j ∙ omega (arith, power-other i j d)))
+    (λ some. bit-or x (2 ^ i) j ∙ omega (arith, power-other i j d)))
     (λ large. refl)
 
 -- ---- the promise

@@ -36,7 +36,7 @@ pub cleared-apart : (x i : ℕ) → bitAnd (withoutBit x i) (2 ^ i) ≡ 0
 cleared-apart x i =
     bits-apart (withoutBit x i) (2 ^ i)
     (λ j. split (eqb i j) (λ h. rw (← eqb-true i j h, without-here) (omega arith))
-      (λ h. omega (arith, power-other i j (eqb-false i j h))))
+    (λ h. omega (arith, power-other i j (eqb-false i j h))))
 
 -- bits within a mask are apart from what the mask is apart from
 pub only-apart : (mask x m : ℕ) → only mask x ≡ true → bitAnd mask m ≡ 0 → bitAnd x m ≡ 0

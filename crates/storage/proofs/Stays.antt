@@ -157,7 +157,7 @@ pub room : (s : Storage) (capacity end : ℕ) → isRunning s ≡ true → keeps
 room s capacity end r k o =
     split (ltb (s .held) capacity) (λ q. ltb-true _ _ q)
     (λ q. let full = full-test (s .held) capacity end o (ltb-false _ _ q) in
-      absurd (false≢true (sym (running-only (s .phase) s r .0) ∙ facts s capacity end k .done ∙ full)))
+    absurd (false≢true (sym (running-only (s .phase) s r .0) ∙ facts s capacity end k .done ∙ full)))
 
 pub stored-keeps : (s : Storage) (capacity end : ℕ) → isRunning s ≡ true → keepsOf s capacity end ≡ true
     → keepsOf (storedOf s capacity end) capacity end ≡ true
