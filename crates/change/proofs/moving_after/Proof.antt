@@ -7,12 +7,12 @@ use Rattle.change.proofs.moving_after.Tie as tie
 storage-after-requires : tie.Need-storage-after-requires
 storage-after-requires c κs = search needs
 
-external-after-requires : tie.Need-external-after-requires
-external-after-requires c κs = search needs
+moving-by-requires : tie.Need-moving-by-requires
+moving-by-requires c κs = search needs
 
 returns : tie.Need-returns
 unfolding movingAfter
-returns c = rw (c .external-after .ensures, c .before .before .storage-after .ensures)
+returns c = rw (c .moving-by .ensures, c .before .storage-after .ensures)
 
 pub moving-after-spec : {M : Type 1} → statement M
-moving-after-spec = tie.close (tie.spec storage-after-requires external-after-requires returns)
+moving-after-spec = tie.close (tie.spec storage-after-requires moving-by-requires returns)

@@ -1,8 +1,5 @@
 -- `state::Moving::start` meets its contract. Assumes nothing.
 use borrow.Author.Needs.{needs}
-use Rattle.state.specs.State.{startState, detectionNow, crossedFrom, markedBy, samplingOf}
-use Rattle.state.specs.Storing.{triggerOf, tickOf, sampledBy, storedIn}
-use Rattle.state.specs.Allowed.{keepsUnit, keepsLatest, keepsParts, allowedState}
 use Rattle.state.proofs.Moving.start.Statement.{statement}
 use Rattle.state.proofs.Moving.start.Tie as tie
 
@@ -10,7 +7,6 @@ emptied-requires : tie.Need-emptied-requires
 emptied-requires c κs = search needs
 
 returns : tie.Need-returns
-unfolding startState detectionNow crossedFrom markedBy samplingOf triggerOf tickOf sampledBy storedIn keepsUnit keepsLatest keepsParts allowedState
 returns c = rw (c .emptied .ensures)
 
 pub start-spec : {M : Type 1} → statement M

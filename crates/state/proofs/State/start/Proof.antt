@@ -1,8 +1,6 @@
 -- `state::State::start` meets its contract. Assumes nothing.
 use borrow.Author.Needs.{needs}
-use Rattle.state.specs.State.{startState, detectionNow, crossedFrom, markedBy, samplingOf}
-use Rattle.state.specs.Storing.{triggerOf, tickOf, sampledBy, storedIn}
-use Rattle.state.specs.Allowed.{keepsUnit, keepsLatest, keepsParts, allowedState}
+use Rattle.state.specs.State.{startState}
 use Rattle.state.proofs.State.start.Statement.{statement}
 use Rattle.state.proofs.State.start.Tie as tie
 
@@ -19,8 +17,10 @@ start-requires-4 : tie.Need-start-requires-4
 start-requires-4 c κs = search needs
 
 returns : tie.Need-returns
-unfolding startState detectionNow crossedFrom markedBy samplingOf triggerOf tickOf sampledBy storedIn keepsUnit keepsLatest keepsParts allowedState
-returns c = rw (c .start4 .ensures, c .before .start3 .ensures, c .before .before .start2 .ensures, c .before .before .before .start .ensures)
+unfolding startState
+returns c =
+    let two = c .before .before in
+    rw (c .start4 .ensures, c .before .start3 .ensures, two .start2 .ensures, two .before .start .ensures)
 
 pub start-spec : {M : Type 1} → statement M
 start-spec =
