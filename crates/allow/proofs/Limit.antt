@@ -18,7 +18,8 @@ pub limit-after : (s : Settings) (m : Moving) (e v : ℕ) → withinLimit (detec
 unfolding valueAllowed keepsLimit
 limit-after s m e v h =
     by (eqb e freq) (eqb e harm) (eqb e fmod)
-    (cond (eqb e oflt) (timeConstantStands (detectionOf s (m .external)) v) (cond (eqb e send) (isReset (m .storage)) true))
+    (cond (eqb e oflt) (timeConstantStands (detectionOf s (m .external)) v)
+    (cond (eqb e send) (isReset (m .storage)) true))
     refl refl refl
   where
     by : (a b c rest : Bool) → eqb e freq ≡ a → eqb e harm ≡ b → eqb e fmod ≡ c →

@@ -61,7 +61,9 @@ record Holds (old : ℕ) (s : Settings) (m : Moving) (capacity : ℕ) : Type 0 w
   tuned : Tuning old s (m .external)
   stored : Stored s m capacity
 
-module _ (old : ℕ) (s : Settings) (m : Moving) (capacity : ℕ) (h : Holds old s m capacity) (e v : ℕ) (k : keeps e v ≡ true) where
+module _ (old : ℕ) (s : Settings) (m : Moving) (capacity : ℕ) (h : Holds old s m capacity) (e v : ℕ)
+    (k : keeps e v ≡ true) where
+  -- one more value, where the rules on it are met
   holds-with : withinLimit (detectionOf (withValue s e v) (m .external)) ≡ true →
       (oflt ≡ e → timeConstantStands old v ≡ true) → (send ≡ e → storage.isReset (m .storage) ≡ true) →
       Holds old (withValue s e v) m capacity
@@ -84,9 +86,11 @@ module _ (old : ℕ) (s : Settings) (m : Moving) (capacity : ℕ) (h : Holds old
   free-holds : channelLow ≤ e → e ≤ channelHigh → Holds old (withValue s e v) m capacity
   free-holds l u =
       holds-with
-      (rw (detection-other s e v (λ p. omega arith) (λ p. omega arith) (λ p. omega arith) (m .external)) (h .tuned .limit))
+      (rw (detection-other s e v (λ p. omega arith) (λ p. omega arith) (λ p. omega arith) (m .external))
+      (h .tuned .limit))
       (λ p. absurd (omega arith)) (λ p. absurd (omega arith))
 
+  -- a value that is allowed
   value-holds : detectionOf s (m .external) ≡ old → valueAllowed s m e v ≡ true → Holds old (withValue s e v) m capacity
   value-holds d p =
       holds-with (limit-after s m e v (h .tuned .limit) p) (λ q. rw (← d) (constant-allowed s m v (rw (← q) at p)))
@@ -131,7 +135,9 @@ module _ (s : State) (h : allowedState s ≡ true) where
   set-stays (set.Pair entry v w) k p =
       let old = detectionNow s in
       let capacity = s .unit .capacity in
-      let first = free-holds old (s .settings) (s .moving) capacity holds-now entry v (k .first) (k .low) (omega (arith, k .high, k .after)) in
+      let first =
+      free-holds old (s .settings) (s .moving) capacity holds-now entry v (k .first) (k .low)
+      (omega (arith, k .high, k .after)) in
       settings-stay (withPair (s .settings) entry v w) (s .enables)
       (free-holds old (withValue (s .settings) entry v) (s .moving) capacity first (behind entry) w (k .second)
       (omega (arith, k .low, k .after)) (k .high))
@@ -184,7 +190,8 @@ module _ (s : State) (h : allowedState s ≡ true) where
       (paused-keeps (s .moving .storage) (s .unit .capacity) (valueOf (s .settings) send) (sound s h .stored))
   act-stays Empty =
       storage-stays storage.emptiedStorage
-      (emptied-keeps (s .unit .capacity) (valueOf (s .settings) send) (capacity-known (s .unit) (sound s h .unit) .least))
+      (emptied-keeps (s .unit .capacity) (valueOf (s .settings) send)
+      (capacity-known (s .unit) (sound s h .unit) .least))
   act-stays Trigger = trigger-allowed s h
 
   -- a command that the state allows

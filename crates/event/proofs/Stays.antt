@@ -37,6 +37,7 @@ module _ (s : State) (h : allowedState s ≡ true) where
   registers-stay : (r : Registers) → status.keepsOf r (s .enables) ≡ true → allowedState (withRegisters r s) ≡ true
   registers-stay r p = sound-allowed (withRegisters r s) (with-status (sound s h) r (s .enables) p)
 
+  -- a new latest pair, taken or refused
   pair-stays : (w v : ℕ) → allowedState (pairTaken w v s .state) ≡ true
   unfolding pairTaken
   pair-stays w v = by (keepsLatest (pairOf w v)) refl where
@@ -45,12 +46,13 @@ module _ (s : State) (h : allowedState s ≡ true) where
     by true p = sound-allowed (withLatest (pairOf w v) s) (with-latest (sound s h) (pairOf w v) p)
     by false p = h
 
+  -- raised bits, taken or refused
   raised-stays : (lia errors : ℕ) → allowedState (bitsRaised lia errors s .state) ≡ true
   unfolding bitsRaised
   raised-stays lia errors = by (status.mayRaise lia errors) refl where
     by : (t : Bool) → status.mayRaise lia errors ≡ t
-        → allowedState (cond t (done (withRegisters (status.withRaised (s .registers) lia errors) s)) (refused s) .state)
-        ≡ true
+        → allowedState
+        (cond t (done (withRegisters (status.withRaised (s .registers) lia errors) s)) (refused s) .state) ≡ true
     by true p =
         registers-stay (status.withRaised (s .registers) lia errors)
         (raised-keeps (s .registers) (s .enables) (sound s h .bits) lia errors p)
@@ -73,6 +75,7 @@ module _ (s : State) (h : allowedState s ≡ true) where
       crossed-allowed (detectionNow s) (withExternal f s)
       (with-moving k (s .settings) (atFrequency f (s .moving)) t (k .stored))
 
+  -- a measured frequency: ignored, taken, or not taken
   measured-stays : (f : ℕ) → allowedState (measuredBy f s) ≡ true
   unfolding measuredBy
   measured-stays f = by (eqb (valueOf (s .settings) fmod) 1) refl (takesFrequency s f) refl where

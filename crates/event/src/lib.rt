@@ -10,7 +10,7 @@ use state::State;
 use storage::Sampled;
 
 // LIA bit 3: a measured frequency is not taken.
-const NOT_TAKEN: u8 = 8;
+const NOT_TAKEN: u8 = 0x08;
 
 // What happens to a module beside its input.
 pub enum Event {

@@ -14,7 +14,8 @@ use Rattle.settings.specs.declared.Settings.{Settings}
 pub value-either : (s : Settings) (e v i : ℕ) (test : ℕ → Bool) → (i ≡ e → test v ≡ true) → test (valueOf s i) ≡ true →
     test (valueOf (withValue s e v) i) ≡ true
 value-either s e v i test p q = by (eqb i e) refl (ltb e (length (s .values))) refl where
-  by : (a : Bool) → eqb i e ≡ a → (b : Bool) → ltb e (length (s .values)) ≡ b → test (valueOf (withValue s e v) i) ≡ true
+  by : (a : Bool) → eqb i e ≡ a → (b : Bool) → ltb e (length (s .values)) ≡ b →
+      test (valueOf (withValue s e v) i) ≡ true
   by false n b l = rw (getD-set-other (s .values) e i v 0 (eqb-false i e n)) q
   by true n true l =
       let same = eqb-true i e n in

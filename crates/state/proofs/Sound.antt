@@ -59,6 +59,7 @@ pub record Sound (d : ℕ) (s : State) : Type 0 where
   pub latest : keepsLatest (s .latest) ≡ true
   pub unit : keepsUnit (s .unit) ≡ true
 
+-- allowed settings, by their rules
 pub tuning : (x : Settings) (f : ℕ) → allowedOf x f ≡ true → Tuning (detectionOf x f) x f
 unfolding allowedOf
 tuning x f h =
@@ -67,6 +68,7 @@ tuning x f h =
     let detection = and-eq-true-iff (withinLimit (detectionOf x f)) _ .0 (frequency .1) in
     record { values = set .0; external = frequency .0; limit = detection .0; stands = detection .1 }
 
+-- an allowed state, by its parts
 pub sound : (s : State) → allowedState s ≡ true → Sound (detectionNow s) s
 unfolding allowedState keepsParts
 sound s h =
@@ -82,6 +84,7 @@ sound s h =
       unit = rest .1;
     }
 
+-- and back
 pub sound-allowed : (s : State) → Sound (detectionNow s) s → allowedState s ≡ true
 unfolding allowedState keepsParts allowedOf
 sound-allowed s k =
@@ -92,12 +95,13 @@ sound-allowed s k =
 
 module _ {d : ℕ} {s : State} (k : Sound d s) where
   -- other settings and another moving part
-  pub with-moving : {new : ℕ} (x : Settings) (m : Moving) → Tuning new x (m .external) → Stored x m (s .unit .capacity) →
-      Sound new (withMoving m (withSettings x s))
+  pub with-moving : {new : ℕ} (x : Settings) (m : Moving) → Tuning new x (m .external) →
+      Stored x m (s .unit .capacity) → Sound new (withMoving m (withSettings x s))
   with-moving x m t p = record { tuned = t; stored = p; bits = k .bits; latest = k .latest; unit = k .unit }
 
   -- other registers and enables
-  pub with-status : (r : Registers) (e : Enables) → status.keepsOf r e ≡ true → Sound d (withRegisters r (withEnables e s))
+  pub with-status : (r : Registers) (e : Enables) → status.keepsOf r e ≡ true →
+      Sound d (withRegisters r (withEnables e s))
   with-status r e p = record { tuned = k .tuned; stored = k .stored; bits = p; latest = k .latest; unit = k .unit }
 
   -- another latest pair
@@ -119,9 +123,11 @@ capacity-known u k =
     let both = and-eq-true-iff (leb capacityLeast (u .capacity)) (leb (u .capacity) capacityMost) .0 (two .1) in
     record { least = leb-true _ _ (both .0); most = leb-true _ _ (both .1) }
 
+-- empty storage, whatever the capacity
 fresh-stored : (u : Unit) → keepsUnit u ≡ true → Stored startSettings startMoving (u .capacity)
 fresh-stored u k = emptied-keeps (u .capacity) (valueOf startSettings send) (capacity-known u k .least)
 
+-- a fresh state
 pub start-allowed : (u : Unit) → keepsUnit u ≡ true → allowedState (startState u) ≡ true
 unfolding startState
 start-allowed u k =
@@ -134,11 +140,14 @@ start-allowed u k =
       unit = k;
     })
 
-pub reset-allowed : (s : State) → allowedState s ≡ true → allowedState (withMoving startMoving (withSettings startSettings s)) ≡ true
+-- a state after *RST
+pub reset-allowed : (s : State) → allowedState s ≡ true →
+    allowedState (withMoving startMoving (withSettings startSettings s)) ≡ true
 reset-allowed s h =
     let k = sound s h in
     sound-allowed (withMoving startMoving (withSettings startSettings s))
-    (with-moving k startSettings startMoving (tuning startSettings externalStart settings-allowed) (fresh-stored (s .unit) (k .unit)))
+    (with-moving k startSettings startMoving (tuning startSettings externalStart settings-allowed)
+    (fresh-stored (s .unit) (k .unit)))
 
 -- ---- a crossing of 200 Hz
 
@@ -179,7 +188,8 @@ crossed-allowed old s k =
     let now = detectionOf x external in
     let constant = valueOf x oflt in
     let crossing = crossingOf old now constant in
-    let same = detection-other x oflt (crossing .constant) (λ e. omega arith) (λ e. omega arith) (λ e. omega arith) external in
+    let same =
+    detection-other x oflt (crossing .constant) (λ e. omega arith) (λ e. omega arith) (λ e. omega arith) external in
     let t = k .tuned in
     sound-allowed (crossedFrom old s)
     (with-status
@@ -190,7 +200,8 @@ crossed-allowed old s k =
       limit = rw same (t .limit);
       stands =
           rw same
-          (value-set x oflt (crossing .constant) (timeConstantStands now) (crossing-stands old now constant (t .stands)) refl);
+          (value-set x oflt (crossing .constant) (timeConstantStands now)
+          (crossing-stands old now constant (t .stands)) refl);
     })
     (rw (getD-set-other (x .values) oflt send (crossing .constant) 0 (λ e. omega arith)) (k .stored)))
     (status.withLia (s .registers) (crossing .bits)) (s .enables)
@@ -200,7 +211,8 @@ crossed-allowed old s k =
 
 module _ (s : State) (h : allowedState s ≡ true) where
   -- another storage, and LIA bits that are used ones
-  sampled-allowed : (p : Sampled) → storage.keepsOf (p .storage) (s .unit .capacity) (valueOf (s .settings) send) ≡ true →
+  sampled-allowed : (p : Sampled) →
+      storage.keepsOf (p .storage) (s .unit .capacity) (valueOf (s .settings) send) ≡ true →
       bitAnd (p .bits) status.liaUnused ≡ 0 → allowedState (sampledBy p s) ≡ true
   unfolding sampledBy
   sampled-allowed p q free =
@@ -210,6 +222,7 @@ module _ (s : State) (h : allowedState s ≡ true) where
       (status.withLia (s .registers) (p .bits)) (s .enables)
       (lia-keeps (s .registers) (s .enables) (k .bits) (p .bits) free))
 
+  -- a tick sets no LIA bit
   pub tick-allowed : allowedState (sampledBy (tickOf s) s) ≡ true
   unfolding tickOf samplingOf storage.tickedOf
   tick-allowed =

@@ -3,11 +3,8 @@ use borrow.Author.Needs.{needs}
 use Rattle.change.proofs.moving_by.Statement.{statement}
 use Rattle.change.proofs.moving_by.Tie as tie
 
-external-after-requires : tie.Need-external-after-requires
-external-after-requires c κs = search needs
-
 returns : tie.Need-returns
 returns c = rw (c .external-after .ensures)
 
 pub moving-by-spec : {M : Type 1} → statement M
-moving-by-spec = tie.close (tie.spec external-after-requires returns)
+moving-by-spec = tie.close (tie.spec (λ c κs. search needs) returns)

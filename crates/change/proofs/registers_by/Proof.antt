@@ -5,12 +5,6 @@ use Rattle.change.specs.Change.{registersBy}
 use Rattle.change.proofs.registers_by.Statement.{statement}
 use Rattle.change.proofs.registers_by.Tie as tie
 
-is-clear-requires : tie.Need-is-clear-requires
-is-clear-requires c κs = search needs
-
-all-cleared-requires : tie.Need-all-cleared-requires
-all-cleared-requires c κs = search needs
-
 returns : tie.Need-returns
 unfolding registersBy
 returns c = simp (c .all-cleared .ensures, sym (c .before .before .is-clear .ensures) ∙ c .before .if1 .taken)
@@ -20,4 +14,4 @@ unfolding registersBy
 returns-2 c = simp (sym (c .before .is-clear .ensures) ∙ c .if1 .left)
 
 pub registers-by-spec : {M : Type 1} → statement M
-registers-by-spec = tie.close (tie.spec is-clear-requires all-cleared-requires returns returns-2)
+registers-by-spec = tie.close (tie.spec (λ c κs. search needs) (λ c κs. search needs) returns returns-2)

@@ -8,13 +8,19 @@ use Rattle.change.proofs.state_after.Tie as tie
 returns : tie.Need-returns
 returns c =
     let tested = c .before .before in
-    rw (tested .before .before .kind .given .1, sym (tested .is-trigger .ensures) ∙ c .before .if1 .taken) (c .sampled .ensures)
+    rw (tested .before .before .kind .given .1, sym (tested .is-trigger .ensures) ∙ c .before .if1 .taken)
+    (c .sampled .ensures)
 
 -- a set
 returns-2 : tie.Need-returns-2
 returns-2 c =
     let done = c .before .before in
-    rw (c .crossed .ensures, c .before .detection-now .ensures, done .changed .ensures, done .before .enum-told .given .1)
+    rw (
+      c .crossed .ensures,
+      c .before .detection-now .ensures,
+      done .changed .ensures,
+      done .before .enum-told .given .1,
+    )
 
 -- a query
 returns-3 : tie.Need-returns-3
@@ -24,7 +30,8 @@ returns-3 c = rw (c .changed2 .ensures, c .before .enum-told2 .given .1)
 returns-4 : tie.Need-returns-4
 returns-4 c =
     let tested = c .before .before in
-    rw (tested .before .before .kind .given .1, sym (tested .is-trigger .ensures) ∙ c .before .if1 .left) (c .changed3 .ensures)
+    rw (tested .before .before .kind .given .1, sym (tested .is-trigger .ensures) ∙ c .before .if1 .left)
+    (c .changed3 .ensures)
 
 pub state-after-spec : {M : Type 1} → statement M
 state-after-spec =

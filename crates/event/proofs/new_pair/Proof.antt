@@ -5,9 +5,6 @@ use borrow.Author.Needs.{needs}
 use Rattle.event.proofs.new_pair.Statement.{statement}
 use Rattle.event.proofs.new_pair.Tie as tie
 
-keeps-latest-requires : tie.Need-keeps-latest-requires
-keeps-latest-requires c κs = search needs
-
 returns : tie.Need-returns
 unfolding pairTaken
 returns c = simp (sym (c .before .keeps-latest .ensures) ∙ c .if1 .taken)
@@ -17,4 +14,4 @@ unfolding pairTaken
 returns-2 c = simp (sym (c .before .keeps-latest .ensures) ∙ c .if1 .left)
 
 pub new-pair-spec : {M : Type 1} → statement M
-new-pair-spec = tie.close (tie.spec keeps-latest-requires returns returns-2)
+new-pair-spec = tie.close (tie.spec (λ c κs. search needs) returns returns-2)

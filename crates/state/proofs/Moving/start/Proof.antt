@@ -3,11 +3,8 @@ use borrow.Author.Needs.{needs}
 use Rattle.state.proofs.Moving.start.Statement.{statement}
 use Rattle.state.proofs.Moving.start.Tie as tie
 
-emptied-requires : tie.Need-emptied-requires
-emptied-requires c κs = search needs
-
 returns : tie.Need-returns
 returns c = rw (c .emptied .ensures)
 
 pub start-spec : {M : Type 1} → statement M
-start-spec = tie.close (tie.spec emptied-requires returns)
+start-spec = tie.close (tie.spec (λ c κs. search needs) returns)

@@ -4,18 +4,6 @@ use Rattle.state.specs.State.{startState}
 use Rattle.state.proofs.State.start.Statement.{statement}
 use Rattle.state.proofs.State.start.Tie as tie
 
-start-requires : tie.Need-start-requires
-start-requires c κs = search needs
-
-start-requires-2 : tie.Need-start-requires-2
-start-requires-2 c κs = search needs
-
-start-requires-3 : tie.Need-start-requires-3
-start-requires-3 c κs = search needs
-
-start-requires-4 : tie.Need-start-requires-4
-start-requires-4 c κs = search needs
-
 returns : tie.Need-returns
 unfolding startState
 returns c =
@@ -24,4 +12,6 @@ returns c =
 
 pub start-spec : {M : Type 1} → statement M
 start-spec =
-    tie.close (tie.spec start-requires start-requires-2 start-requires-3 start-requires-4 returns)
+    tie.close
+    (tie.spec
+    (λ c κs. search needs) (λ c κs. search needs) (λ c κs. search needs) (λ c κs. search needs) returns)
