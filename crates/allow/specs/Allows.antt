@@ -1,4 +1,5 @@
--- Whether the state allows a command: refusal 3, "not allowed in this state (FREQ, HARM, FMOD, OFLT, SEND, TRC rules above)".
+-- Whether the state allows a command: refusal 3, "not allowed in this state (FREQ, HARM, FMOD, OFLT, SEND, TRC rules
+-- above)".
 use Prim.Native.Nat.{ℕ}
 use mathlib.Core.Bool.{Bool, true, cond, _&&_}
 use lib.Dec.{eqb}
@@ -18,8 +19,9 @@ use Rattle.state.specs.declared.Moving.{Moving}
 unfoldable pub keepsLimit : Settings → Moving → ℕ → ℕ → Bool
 keepsLimit s m entry v = withinLimit (detectionOf (withValue s entry v) (m .external))
 
--- "FREQ (as rounded), HARM or FMOD that would break this is refused, never adjusted"; "FREQ is set only when FMOD is 1."; "OFLT 14 to 19 (above
--- 30 s) is refused while the detection frequency exceeds 200 Hz."; "SEND is refused unless storage is reset"
+-- "FREQ (as rounded), HARM or FMOD that would break this is refused, never adjusted"; "FREQ is set only when FMOD is
+-- 1."; "OFLT 14 to 19 (above 30 s) is refused while the detection frequency exceeds 200 Hz."; "SEND is refused unless
+-- storage is reset"
 unfoldable pub valueAllowed : Settings → Moving → ℕ → ℕ → Bool
 valueAllowed s m entry v =
     cond (eqb entry freq) (eqb (valueOf s fmod) 1 && keepsLimit s m entry v)
@@ -28,6 +30,7 @@ valueAllowed s m entry v =
     (cond (eqb entry oflt) (timeConstantStands (detectionOf s (m .external)) v)
     (cond (eqb entry send) (isReset (m .storage)) true))))
 
+-- whether a set is allowed
 unfoldable pub setAllowed : Settings → Moving → SetArgument → Bool
 setAllowed s m (set.Value entry v) = valueAllowed s m entry v
 setAllowed s m (set.Pair entry v w) = true
@@ -46,6 +49,7 @@ queryAllowed m (query.StatusBit r i) = true
 queryAllowed m query.Identity = true
 queryAllowed m query.Points = true
 
+-- whether a command is allowed
 unfoldable pub allowsOf : Settings → Moving → Kind → Bool
 allowsOf s m (Set a) = setAllowed s m a
 allowsOf s m (Query q) = queryAllowed m q

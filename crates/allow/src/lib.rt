@@ -40,6 +40,7 @@ fn value_allowed(s: Settings, m: Moving, entry: usize, value: u32) -> bool
     true
 }
 
+// Whether a set is allowed.
 fn set_allowed(s: Settings, m: Moving, a: SetArgument) -> bool
     ensures { λ r. ⌜ r ≡ setAllowed s m a ⌝ }
 {
@@ -51,6 +52,7 @@ fn set_allowed(s: Settings, m: Moving, a: SetArgument) -> bool
     }
 }
 
+// Whether a query is allowed: a trace is read only as far as points are held.
 fn query_allowed(m: Moving, q: QueryArgument) -> bool
     ensures { λ r. ⌜ r ≡ queryAllowed m q ⌝ }
 {

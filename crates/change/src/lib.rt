@@ -1,6 +1,9 @@
 // What a command changes: the settings, what events change too, the registers and the enables.
 ghost use mathlib.Core.Path.{_≡_};
-ghost use Rattle.change.specs.Change.{withPair, setIn, isReset, restoredBy, settingsAfter, unstored, storageBy, storageAfter, externalBy, externalAfter, movingAfter, registersAsked, registersBy, registersAfter, enablesSet, enablesAfter, changedBy, stateAfter};
+ghost use Rattle.change.specs.Change.{isReset, isClear, isTrigger, withPair, setIn, restoredBy, settingsAfter};
+ghost use Rattle.change.specs.Change.{unstored, storageBy, storageAfter, externalBy, externalAfter, movingBy};
+ghost use Rattle.change.specs.Change.{movingAfter, registersAsked, registersBy, registersAfter, enablesSet};
+ghost use Rattle.change.specs.Change.{enablesAfter, changedBy, stateBy};
 use command::Kind;
 use command::QueryArgument;
 use command::SetArgument;
@@ -22,6 +25,7 @@ fn pair_in(s: Settings, entry: usize, first: u32, second: u32) -> Settings
     settings::with_value(one, settings::behind(entry), second)
 }
 
+// The settings after a set.
 fn set_in(s: Settings, a: SetArgument) -> Settings
     ensures { λ r. ⌜ r ≡ setIn s a ⌝ }
 {
@@ -33,6 +37,7 @@ fn set_in(s: Settings, a: SetArgument) -> Settings
     }
 }
 
+// Whether an action is *RST.
 pub fn is_reset(a: Action) -> bool
     ensures { λ r. ⌜ r ≡ isReset a ⌝ }
 {
@@ -46,6 +51,35 @@ pub fn is_reset(a: Action) -> bool
     }
 }
 
+// Whether an action is *CLS.
+fn is_clear(a: Action) -> bool
+    ensures { λ r. ⌜ r ≡ isClear a ⌝ }
+{
+    match a {
+        Action::Clear => true,
+        Action::Reset => false,
+        Action::Start => false,
+        Action::Pause => false,
+        Action::Empty => false,
+        Action::Trigger => false,
+    }
+}
+
+// Whether an action is TRIG.
+fn is_trigger(a: Action) -> bool
+    ensures { λ r. ⌜ r ≡ isTrigger a ⌝ }
+{
+    match a {
+        Action::Trigger => true,
+        Action::Reset => false,
+        Action::Clear => false,
+        Action::Start => false,
+        Action::Pause => false,
+        Action::Empty => false,
+    }
+}
+
+// The settings after an action.
 fn restored(s: Settings, a: Action) -> Settings
     ensures { λ r. ⌜ r ≡ restoredBy a s ⌝ }
 {
@@ -77,6 +111,7 @@ fn unstored(storage: Storage) -> Sampled
     }
 }
 
+// What an action does to storage.
 fn storage_by(s: Storage, capacity: u32, by: Sampling, a: Action) -> Sampled
     ensures { λ r. ⌜ r ≡ storageBy a s capacity by ⌝ }
 {
@@ -101,6 +136,7 @@ pub fn storage_after(s: Settings, m: Moving, capacity: u32, kind: Kind) -> Sampl
     }
 }
 
+// The external frequency after an action.
 fn external_by(external: u32, a: Action) -> u32
     ensures { λ r. ⌜ r ≡ externalBy a external ⌝ }
 {
@@ -110,6 +146,7 @@ fn external_by(external: u32, a: Action) -> u32
     external
 }
 
+// The external frequency after a command.
 fn external_after(external: u32, kind: Kind) -> u32
     ensures { λ r. ⌜ r ≡ externalAfter kind external ⌝ }
 {
@@ -120,18 +157,25 @@ fn external_after(external: u32, kind: Kind) -> u32
     }
 }
 
-// What a command does to the parts that events change too.
+// The moving part after a command that does `p` to storage.
+fn moving_by(m: Moving, p: Sampled, kind: Kind) -> Moving
+    ensures { λ r. ⌜ r ≡ movingBy kind p m ⌝ }
+{
+    let storage = p.storage;
+    let mut t = m;
+    t.external = external_after(m.external, kind);
+    t.storage = storage;
+    t
+}
+
+// The moving part after a command.
 pub fn moving_after(s: Settings, m: Moving, capacity: u32, kind: Kind) -> Moving
     ensures { λ r. ⌜ r ≡ movingAfter kind s m capacity ⌝ }
 {
-    let p = storage_after(s, m, capacity, kind);
-    let storage = p.storage;
-    Moving {
-        external: external_after(m.external, kind),
-        storage,
-    }
+    moving_by(m, storage_after(s, m, capacity, kind), kind)
 }
 
+// The registers after a query.
 fn registers_asked(r: Registers, q: QueryArgument) -> Registers
     ensures { λ t. ⌜ t ≡ registersAsked q r ⌝ }
 {
@@ -148,30 +192,28 @@ fn registers_asked(r: Registers, q: QueryArgument) -> Registers
     }
 }
 
-fn registers_by(r: Registers, bits: u8, a: Action) -> Registers
-    ensures { λ t. ⌜ t ≡ registersBy a bits r ⌝ }
+// The registers after an action, but for the LIA bits that TRIG sets.
+fn registers_by(r: Registers, a: Action) -> Registers
+    ensures { λ t. ⌜ t ≡ registersBy a r ⌝ }
 {
-    match a {
-        Action::Clear => status::all_cleared(),
-        Action::Trigger => status::with_lia(r, bits),
-        Action::Reset => r,
-        Action::Start => r,
-        Action::Pause => r,
-        Action::Empty => r,
+    if is_clear(a) {
+        return status::all_cleared();
     }
+    r
 }
 
-// The event registers after a command of which storage sets these LIA bits.
-fn registers_after(r: Registers, bits: u8, kind: Kind) -> Registers
-    ensures { λ t. ⌜ t ≡ registersAfter kind bits r ⌝ }
+// The registers after a command, but for the LIA bits that a crossing or TRIG sets.
+fn registers_after(r: Registers, kind: Kind) -> Registers
+    ensures { λ t. ⌜ t ≡ registersAfter kind r ⌝ }
 {
     match kind {
         Kind::Set(_) => r,
         Kind::Query(q) => registers_asked(r, q),
-        Kind::Act(a) => registers_by(r, bits, a),
+        Kind::Act(a) => registers_by(r, a),
     }
 }
 
+// The enables after a set.
 fn enables_set(e: Enables, a: SetArgument) -> Enables
     ensures { λ r. ⌜ r ≡ enablesSet a e ⌝ }
 {
@@ -185,6 +227,7 @@ fn enables_set(e: Enables, a: SetArgument) -> Enables
     }
 }
 
+// The enables after a command.
 fn enables_after(e: Enables, kind: Kind) -> Enables
     ensures { λ r. ⌜ r ≡ enablesAfter kind e ⌝ }
 {
@@ -195,32 +238,30 @@ fn enables_after(e: Enables, kind: Kind) -> Enables
     }
 }
 
-// The state after a command, but for what a crossing of 200 Hz does.
-fn changed(s: State, kind: Kind) -> State
-    ensures { λ r. ⌜ r ≡ changedBy kind s ⌝ }
+// The parts that a command changes, given what it does to storage.
+fn changed(s: State, kind: Kind, p: Sampled) -> State
+    ensures { λ r. ⌜ r ≡ changedBy kind p s ⌝ }
 {
-    let moving = s.moving;
-    let latest = s.latest;
-    let unit = s.unit;
-    let p = storage_after(s.settings, moving, unit.capacity, kind);
-    State {
-        settings: settings_after(s.settings, kind),
-        moving: moving_after(s.settings, moving, unit.capacity, kind),
-        registers: registers_after(s.registers, p.bits, kind),
-        enables: enables_after(s.enables, kind),
-        latest,
-        unit,
-    }
+    let mut t = s;
+    t.settings = settings_after(s.settings, kind);
+    t.moving = moving_by(s.moving, p, kind);
+    t.registers = registers_after(s.registers, kind);
+    t.enables = enables_after(s.enables, kind);
+    t
 }
 
-// The state after a command that is not refused.
-pub fn state_after(s: State, kind: Kind) -> State
-    ensures { λ r. ⌜ r ≡ stateAfter kind s ⌝ }
+// The state after a command that is not refused, `p` being what it does to storage.
+pub fn state_after(s: State, kind: Kind, p: Sampled) -> State
+    ensures { λ r. ⌜ r ≡ stateBy kind p s ⌝ }
 {
-    let next = changed(s, kind);
     match kind {
-        Kind::Set(_) => state::crossed(next, state::detection_now(s)),
-        Kind::Query(_) => next,
-        Kind::Act(_) => next,
+        Kind::Set(_) => state::crossed(changed(s, kind, p), state::detection_now(s)),
+        Kind::Query(_) => changed(s, kind, p),
+        Kind::Act(a) => {
+            if is_trigger(a) {
+                return state::sampled(s, p);
+            }
+            changed(s, kind, p)
+        }
     }
 }

@@ -8,8 +8,9 @@ use lib.ListN.{set}
 use lib.Seq.{set-set, set-comm, getD-set-other}
 use borrow.Author.Tests.{eqb-true, eqb-false}
 use Rattle.settings.specs.Table.{fmod, freq, harm, oflt, srat, send, tstr, startSettings, behind, valueOf, withValue}
-use Rattle.settings.specs.Frequency.{inForce, detectionOf}
+use Rattle.settings.specs.Frequency.{detectionOf}
 use Rattle.settings.specs.declared.Settings.{Settings}
+use Rattle.settings.proofs.Values.{detection-by}
 use Rattle.command.specs.declared.SetArgument.{SetArgument}
 use Rattle.command.specs.declared.SetArgument.the-variants as set
 use Rattle.command.specs.declared.Kind.{Kind}
@@ -18,7 +19,10 @@ use Rattle.state.specs.State.{samplingOf, detectionNow, crossedFrom}
 use Rattle.state.specs.declared.Moving.{Moving}
 use Rattle.state.specs.declared.State.{State}
 use Rattle.allow.specs.Allows.{keepsLimit, valueAllowed, setAllowed, allowsOf}
-use Rattle.change.specs.Change.{withPair, setIn, isReset, restoredBy, settingsAfter, storageAfter, movingAfter, changedBy, stateAfter}
+use Rattle.change.specs.Change.{withPair, setIn, isReset, restoredBy, settingsAfter, storageAfter, movingAfter}
+use Rattle.change.specs.Change.{changedBy, stateAfter}
+use Rattle.change.proofs.After.{act-settings}
+pub use Rattle.change.proofs.After.{after-moving, after-unit}
 
 pub record Alike (s t : Settings) : Type 0 where
   pub rest : withValue s oflt 0 ≡ withValue t oflt 0
@@ -52,9 +56,9 @@ alike-with s t p e v = by (eqb e oflt) refl where
 
 module _ (s t : Settings) (p : Alike s t) where
   alike-detection : (f : ℕ) → detectionOf s f ≡ detectionOf t f
-  unfolding detectionOf inForce
-  alike-detection f =
-      rw (alike-value p harm (λ e. omega arith), alike-value p fmod (λ e. omega arith), alike-value p freq (λ e. omega arith)) refl
+  alike-detection =
+      detection-by s t (alike-value p harm (λ e. omega arith)) (alike-value p fmod (λ e. omega arith))
+      (alike-value p freq (λ e. omega arith))
 
   pub alike-sampling : samplingOf s ≡ samplingOf t
   unfolding samplingOf
@@ -113,18 +117,8 @@ crossed-moving old s = refl
 
 pub after-settings : (kind : Kind) (s : State) → Alike (stateAfter kind s .settings) (settingsAfter kind (s .settings))
 unfolding stateAfter changedBy
-after-settings (Set a) s = crossed-settings (detectionNow s) (changedBy (Set a) s)
+after-settings (Set a) s =
+    let p = storageAfter (Set a) (s .settings) (s .moving) (s .unit .capacity) in
+    crossed-settings (detectionNow s) (changedBy (Set a) p s)
 after-settings (Query q) s = alike-self _
-after-settings (Act a) s = alike-self _
-
-pub after-moving : (kind : Kind) (s : State) → stateAfter kind s .moving ≡ movingAfter kind (s .settings) (s .moving) (s .unit .capacity)
-unfolding stateAfter changedBy
-after-moving (Set a) s = crossed-moving (detectionNow s) (changedBy (Set a) s)
-after-moving (Query q) s = refl
-after-moving (Act a) s = refl
-
-pub after-unit : (kind : Kind) (s : State) → stateAfter kind s .unit ≡ s .unit
-unfolding stateAfter changedBy crossedFrom
-after-unit (Set a) s = refl
-after-unit (Query q) s = refl
-after-unit (Act a) s = refl
+after-settings (Act a) s = record { rest = ap (λ (x : Settings). withValue x oflt 0) (act-settings a s) }

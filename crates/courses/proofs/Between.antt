@@ -5,14 +5,14 @@ use native.Mathlib.Nat.{mul-le-mul-left}
 use mathlib.Core.Bool.{Bool, true, false, cond, not, _&&_, _||_, and-eq-true-iff, false≢true}
 use mathlib.Core.Path.{_≡_, refl, sym, _∙_}
 use lib.Dec.{leb, eqb}
-use lib.Seq.{getD-set-other}
-use borrow.Author.Tests.{leb-true, le-leb, ltb-false, le-ltb, eqb-false, not-true}
+use borrow.Author.Tests.{leb-true, le-leb, ltb-false, le-ltb, not-true}
 use Rattle.settings.specs.Table.{fmod, freq, harm, oflt, send, startSettings, behind, valueOf, withValue}
-use Rattle.settings.specs.Frequency.{hertz, inForce, detectionOf, withinLimit, above200, timeConstantStands, externalStart, frequencyInRange}
-use Rattle.settings.specs.Allowed.{keepsAll, allowedOf}
+use Rattle.settings.specs.Frequency.{hertz, inForce, detectionOf, withinLimit, above200, timeConstantStands, externalStart}
+use Rattle.settings.specs.Allowed.{keepsAll}
 use Rattle.settings.specs.declared.Settings.{Settings}
 use Rattle.settings.proofs.Kept.{with-keeps}
 use Rattle.settings.proofs.Start.{start-allowed}
+use Rattle.settings.proofs.Values.{detection-other}
 use Rattle.storage.specs.Storage.{triggerStarts, isReset, emptiedStorage, startedOf, pausedOf, readiedOf, triggeredOf, holdsOf}
 use Rattle.storage.specs.declared.Storage.{Storage}
 use Rattle.storage.specs.declared.Sampling.{Sampling}
@@ -24,9 +24,11 @@ use Rattle.command.specs.declared.QueryArgument.{QueryArgument}
 use Rattle.command.specs.declared.QueryArgument.the-variants as query
 use Rattle.command.specs.declared.Kind.{Kind}
 use Rattle.command.specs.declared.Kind.the-variants.{Set, Query, Act}
-use Rattle.state.specs.State.{samplingOf, startMoving}
+use Rattle.state.specs.State.{withStorage, samplingOf, startMoving}
 use Rattle.state.specs.declared.Moving.{Moving}
+use Rattle.state.proofs.Sound.{tuning}
 use Rattle.allow.specs.Allows.{keepsLimit, valueAllowed, setAllowed, queryAllowed, allowsOf}
+use Rattle.allow.proofs.Limit.{limit-after}
 use Rattle.change.specs.Change.{withPair, setIn, restoredBy, settingsAfter, storageBy, storageAfter, externalBy, externalAfter, movingAfter}
 use Rattle.demands.proofs.Sane.{Sane}
 use Rattle.courses.proofs.Storages.{Low, low-emptied, low-started, low-paused, low-triggered, reset-started, reset-paused, triggered-reset}
@@ -58,11 +60,6 @@ stands-mono false a b h e =
     let l = ltb-false (hertz 200) b (not-true (above200 b) e) in
     rw (le-ltb (hertz 200) a (omega arith)) refl
 
-detection-other : (x : Settings) (e v f : ℕ) → (harm ≡ e → ⊥) → (fmod ≡ e → ⊥) → (freq ≡ e → ⊥) → detectionOf (withValue x e v) f ≡ detectionOf x f
-unfolding detectionOf inForce
-detection-other x e v f a b c =
-    rw (getD-set-other (x .values) e harm v 0 a, getD-set-other (x .values) e fmod v 0 b, getD-set-other (x .values) e freq v 0 c) refl
-
 -- ---- a setting
 
 module _ (x : Settings) (m hi : Moving) (e v : ℕ) where
@@ -92,24 +89,6 @@ module _ (x : Settings) (m hi : Moving) (e v : ℕ) where
     by false false false false true p = r p
     by false false false false false p = refl
 
-  value-limit : detectionOf x (hi .external) ≤ hertz 102000 → valueAllowed x hi e v ≡ true → detectionOf (withValue x e v) (hi .external) ≤ hertz 102000
-  unfolding valueAllowed keepsLimit
-  value-limit h =
-      by (eqb e freq) (eqb e harm) (eqb e fmod)
-      (cond (eqb e oflt) (timeConstantStands (detectionOf x (hi .external)) v) (cond (eqb e send) (isReset (hi .storage)) true)) refl refl refl
-    where
-      by : (a b c rest : Bool) → eqb e freq ≡ a → eqb e harm ≡ b → eqb e fmod ≡ c
-          → cond a (eqb (valueOf x fmod) 1 && withinLimit (detectionOf (withValue x e v) (hi .external)))
-          (cond b (withinLimit (detectionOf (withValue x e v) (hi .external)))
-          (cond c (withinLimit (detectionOf (withValue x e v) (hi .external))) rest)) ≡ true
-          → detectionOf (withValue x e v) (hi .external) ≤ hertz 102000
-      by true b c rest f g i p =
-          leb-true _ _ (and-eq-true-iff (eqb (valueOf x fmod) 1) (withinLimit (detectionOf (withValue x e v) (hi .external))) .0 p .1)
-      by false true c rest f g i p = leb-true _ _ p
-      by false false true rest f g i p = leb-true _ _ p
-      by false false false rest f g i p =
-          rw (detection-other x e v (hi .external) (λ q. eqb-false e harm g (sym q)) (λ q. eqb-false e fmod i (sym q)) (λ q. eqb-false e freq f (sym q))) h
-
 -- ---- commands
 
 -- a command that neither the low nor the high course refuses
@@ -118,16 +97,10 @@ Goes capacity x m lo hi kind =
     (allowsOf x m kind ≡ true)
     × Between capacity (settingsAfter kind x) (movingAfter kind x m capacity) (movingAfter kind x lo capacity) (movingAfter kind x hi capacity)
 
-start-facts : (keepsAll startSettings ≡ true) × (withinLimit (detectionOf startSettings externalStart) ≡ true)
-unfolding allowedOf
-start-facts =
-    let p = and-eq-true-iff (keepsAll startSettings) _ .0 start-allowed in
-    let q = and-eq-true-iff (frequencyInRange externalStart) _ .0 (p .1) in
-    (p .0, and-eq-true-iff (withinLimit (detectionOf startSettings externalStart)) _ .0 (q .1) .0)
-
 start-between : (capacity : ℕ) → Between capacity startSettings startMoving startMoving startMoving
 start-between capacity =
-    record { kept = start-facts .0; limit = leb-true _ _ (start-facts .1); external = omega arith; low = low-emptied capacity; high = λ e. e }
+    let k = tuning startSettings externalStart start-allowed in
+    record { kept = k .values; limit = leb-true _ _ (k .limit); external = omega arith; low = low-emptied capacity; high = λ e. e }
 
 -- *RST in any state
 pub reset-goes : (capacity : ℕ) (x : Settings) (m lo hi : Moving) → Goes capacity x m lo hi (Act Reset)
@@ -140,23 +113,23 @@ module _ (capacity : ℕ) (x : Settings) (m lo hi : Moving) (k : Between capacit
   with-settings y p q = record { kept = p; limit = q; external = k .external; low = k .low; high = k .high }
 
   with-storage : (m′ lo′ hi′ : Storage) → Low capacity lo′ m′ → (isReset hi′ ≡ true → isReset m′ ≡ true)
-      → Between capacity x (record { external = m .external; storage = m′ }) (record { external = lo .external; storage = lo′ })
-      (record { external = hi .external; storage = hi′ })
+      → Between capacity x (withStorage m′ m) (withStorage lo′ lo) (withStorage hi′ hi)
   with-storage m′ lo′ hi′ l r = record { kept = k .kept; limit = k .limit; external = k .external; low = l; high = r }
 
   set-goes : (a : SetArgument) → Sane (Set a) → allowsOf x hi (Set a) ≡ true → Goes capacity x m lo hi (Set a)
   unfolding allowsOf setAllowed settingsAfter setIn withPair movingAfter externalAfter storageAfter
   set-goes (set.Value e v) s h = (
     value-allows x m hi e v (k .external) (k .high) h,
-    with-settings (withValue x e v) (with-keeps x e v (k .kept) s) (value-limit x m hi e v (k .limit) h),
+    with-settings (withValue x e v) (with-keeps x e v (k .kept) s)
+        (leb-true _ _ (limit-after x hi e v (le-leb _ _ (k .limit)) h)),
   )
   set-goes (set.Pair e v w) s h = (
     refl,
     with-settings (withValue (withValue x e v) (behind e) w)
         (with-keeps (withValue x e v) (behind e) w (with-keeps x e v (k .kept) (s .first)) (s .second))
         (rw (
-          detection-other (withValue x e v) (behind e) w (hi .external) (λ q. omega arith) (λ q. omega arith) (λ q. omega arith),
-          detection-other x e v (hi .external) (λ q. omega arith) (λ q. omega arith) (λ q. omega arith),
+          detection-other (withValue x e v) (behind e) w (λ q. omega arith) (λ q. omega arith) (λ q. omega arith) (hi .external),
+          detection-other x e v (λ q. omega arith) (λ q. omega arith) (λ q. omega arith) (hi .external),
         )
         (k .limit)),
   )

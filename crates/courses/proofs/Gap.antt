@@ -14,11 +14,13 @@ use Rattle.settings.specs.declared.Settings.{Settings}
 use Rattle.settings.proofs.Every.{every-at}
 use Rattle.storage.specs.Storage.{triggerStarts, isReset, startedOf, readiedOf, triggeredOf, tickedOf}
 use Rattle.storage.specs.declared.Storage.{Storage}
-use Rattle.state.specs.State.{withRegisters, samplingOf, detectionNow, crossedFrom}
+use Rattle.state.specs.State.{pairOf, atFrequency, withStorage, withRegisters, samplingOf, detectionNow, crossedFrom}
 use Rattle.state.specs.Storing.{triggerOf, tickOf, sampledBy}
+use Rattle.state.specs.Allowed.{keepsLatest}
 use Rattle.state.specs.declared.Moving.{Moving}
 use Rattle.state.specs.declared.State.{State}
-use Rattle.event.specs.Event.{withLatest, legalPair, pairTaken, takesFrequency, withExternal, notTaken, measuredBy, bitsRaised, sampledIn, eventOf, done, refused}
+use Rattle.event.specs.Event.{pairTaken, takesFrequency, withExternal, notTaken, measuredBy, bitsRaised, sampledIn}
+use Rattle.event.specs.Event.{eventOf, done, refused}
 use Rattle.event.specs.declared.Event.{Event}
 use Rattle.event.specs.declared.Event.the-variants.{Latest, Tick, Trigger, Measured, Raised}
 use Rattle.status.specs.Status.{withLia, mayRaise}
@@ -51,7 +53,7 @@ module _ (capacity : ℕ) (x : Settings) (m lo hi : Moving) (k : Between capacit
   unfolding measuredHigh detectionOf inForce
   measured = by (eqb (valueOf x fmod) 1) refl where
     raised : Moving
-    raised = record { external = hertz 102000 / valueOf x harm; storage = hi .storage }
+    raised = atFrequency (hertz 102000 / valueOf x harm) hi
 
     by : (t : Bool) → eqb (valueOf x fmod) 1 ≡ t
         → Between capacity x m lo (cond t hi raised)
@@ -106,7 +108,7 @@ pub record Within (capacity : ℕ) (x : Settings) (lo hi : Moving) (s : State) :
 
 module _ (capacity : ℕ) (x : Settings) (lo hi : Moving) (ready : Ready x hi) (s : State) (k : Within capacity x lo hi s) where
   with-storage : (t : Storage) → Low capacity (lo .storage) t → (isReset (hi .storage) ≡ true → isReset t ≡ true)
-      → Between capacity x (record { external = s .moving .external; storage = t }) lo hi
+      → Between capacity x (withStorage t (s .moving)) lo hi
   with-storage t l r =
       record { kept = k .between .kept; limit = k .between .limit; external = k .between .external; low = l; high = r }
 
@@ -159,12 +161,12 @@ module _ (capacity : ℕ) (x : Settings) (lo hi : Moving) (ready : Ready x hi) (
     by true b p q = k
     by false true p q =
         record {
-          same = unfold crossedFrom withExternal in k .same;
-          alike = alike-then (crossed-settings (detectionNow s) (withExternal f s)) (unfold withExternal in k .alike);
+          same = unfold crossedFrom in k .same;
+          alike = alike-then (crossed-settings (detectionNow s) (withExternal f s)) (k .alike);
           between =
+              let b = k .between in
               rw (crossed-moving (detectionNow s) (withExternal f s))
-              (unfold withExternal in
-              record { kept = k .between .kept; limit = k .between .limit; external = taken p q; low = k .between .low; high = k .between .high });
+              (record { kept = b .kept; limit = b .limit; external = taken p q; low = b .low; high = b .high });
         }
     by false false p q = record { same = k .same; alike = k .alike; between = k .between }
 
@@ -174,7 +176,8 @@ module _ (capacity : ℕ) (x : Settings) (lo hi : Moving) (ready : Ready x hi) (
 
   pub event-within : (e : Event) (one two : List ℕ) → Within capacity x lo hi (eventOf e s one two .state)
   event-within (Latest w v) one two =
-      unfold eventOf pairTaken withLatest in quiet-within (legalPair w v) _ (record { same = k .same; alike = k .alike; between = k .between })
+      unfold eventOf pairTaken in
+      quiet-within (keepsLatest (pairOf w v)) _ (record { same = k .same; alike = k .alike; between = k .between })
   event-within Tick one two = tick-within one two
   event-within Trigger one two = trigger-within one two
   event-within (Measured f) one two = unfold eventOf in measured-within f

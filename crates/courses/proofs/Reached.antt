@@ -10,7 +10,7 @@ use Rattle.refusal.specs.declared.Refusal.the-variants.{NoReset, LongScriptLine
 use Rattle.settings.specs.Allowed.{keepsAll}
 use Rattle.event.specs.Event.{eventOf}
 use Rattle.event.specs.declared.Event.the-variants.{Trigger, Measured}
-use Rattle.event.proofs.Crossed.{sound}
+use Rattle.state.proofs.Sound.{sound}
 use Rattle.line.specs.Line.{startLine, lineOf}
 use Rattle.clean.specs.Texts.{textsOf}
 use Rattle.refusal.specs.declared.Answer.the-variants.{Passed, Refused}
@@ -27,7 +27,7 @@ use Rattle.courses.proofs.Sized.{Sized, measured-sized, trigger-sized}
 use Rattle.courses.proofs.Rooms.{enough, room-enough, line-sized}
 
 open-kept : (w : World) → Open w → keepsAll (w .core .state .settings) ≡ true
-open-kept w o = sound (w .core .state) (open-allowed w o) .values
+open-kept w o = sound (w .core .state) (open-allowed w o) .tuned .values
 
 -- ---- before a line
 

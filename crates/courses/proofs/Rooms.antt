@@ -45,7 +45,7 @@ use Rattle.reply.proofs.Over.{pointBytes-length}
 use Rattle.reply_text.specs.ReplyText.{valueNow, valueText, pairText, statusNow, statusOf, identityText, textOf}
 use Rattle.reply_text.proofs.Texts.{value-length, plain-short}
 use Rattle.answer.specs.Reply.{endedText, traceReply, queryReply, replyOf}
-use Rattle.event.proofs.Crossed.{sound}
+use Rattle.state.proofs.Sound.{sound}
 use Rattle.line.specs.Perform.{Effect, refusedBy, doneBy, performed, commandOf}
 use Rattle.line.specs.Line.{Line, waits, afterOf, stepOf, runAll, startLine, lineOf}
 use Rattle.script.proofs.Parts.{parts-length}
@@ -75,7 +75,7 @@ module _ (s : State) (a : allowedState s ≡ true) (k : Sized s) where
     by : (t : Bool) → ltb e entries ≡ t → valueOf (s .settings) e < 2 ^ 32
     by true p =
         let l = ltb-true e entries p in
-        let h = every-at (λ i. keeps i (valueOf (s .settings) i)) entries (sound s a .values) e l in
+        let h = every-at (λ i. keeps i (valueOf (s .settings) i)) entries (sound s a .tuned .values) e l in
         omega (arith, kept-size e (valueOf (s .settings) e) h)
     by false p =
         rw (List·getD-eq-default (s .settings .values) 0 {n = e} (rw (k .full) (ltb-false e entries p))) (omega arith)
@@ -83,7 +83,7 @@ module _ (s : State) (a : allowedState s ≡ true) (k : Sized s) where
   external-small : s .moving .external < 2 ^ 32
   external-small =
       let f = s .moving .external in
-      let p = and-eq-true-iff (leb 10 f) (leb f (hertz 102000)) .0 (sound s a .external) in
+      let p = and-eq-true-iff (leb 10 f) (leb f (hertz 102000)) .0 (sound s a .tuned .external) in
       omega (arith, leb-true f (hertz 102000) (p .1))
 
   now-small : (e : ℕ) → valueNow s e < 2 ^ 32

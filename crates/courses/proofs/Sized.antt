@@ -19,12 +19,14 @@ use Rattle.settings.specs.declared.Settings.{Settings}
 use Rattle.storage.specs.Storage.{bit6, triggerStores, setsRunning, triggeredOf}
 use Rattle.storage.specs.declared.Storage.{Storage}
 use Rattle.storage.specs.declared.Sampling.{Sampling}
+use Rattle.storage.specs.declared.Sampled.{Sampled}
 use Rattle.status.specs.Bits.{withoutBit, withBit}
-use Rattle.status.specs.Status.{registerOf, withRegister, clearedOf, bitCleared, withStandard, withLia, enableOf, withEnableByte, withEnable, withEnableBit}
+use Rattle.status.specs.Status.{registerOf, withRegister, clearedOf, bitCleared, allCleared, withStandard, withLia, enableOf, withEnableByte, withEnable, withEnableBit}
 use Rattle.status.specs.declared.Registers.{Registers}
 use Rattle.status.specs.declared.Enables.{Enables}
 use Rattle.name.specs.declared.Register.{Register}
 use Rattle.name.specs.declared.Register.the-variants.{Standard, Service, Lia, Errors}
+use Rattle.name.specs.declared.Action.{Action}
 use Rattle.name.specs.declared.Action.the-variants.{Reset, Clear, Start, Pause, Empty, Trigger}
 use Rattle.command.specs.declared.SetArgument.{SetArgument}
 use Rattle.command.specs.declared.SetArgument.the-variants as set
@@ -175,18 +177,14 @@ unfolding triggerOf
 trigger-fits s k =
     lia-fits (s .registers) k _ (trigger-byte (s .moving .storage) (s .unit .capacity) (samplingOf (s .settings)))
 
-registers-fit : (kind : Kind) (s : State) → RegistersFit (s .registers)
-    → let bits = storageAfter kind (s .settings) (s .moving) (s .unit .capacity) .bits in
-    RegistersFit (registersAfter kind bits (s .registers))
-unfolding registersAfter registersBy storageAfter storageBy triggerOf
-registers-fit (Set a) s k = k
-registers-fit (Query q) s k = asked-fits (s .registers) k q
-registers-fit (Act Reset) s k = k
-registers-fit (Act Clear) s k = record { standard = omega arith; lia = omega arith; errors = omega arith }
-registers-fit (Act Start) s k = k
-registers-fit (Act Pause) s k = k
-registers-fit (Act Empty) s k = k
-registers-fit (Act Trigger) s k = trigger-fits s k
+registers-fit : (kind : Kind) (r : Registers) → RegistersFit r → RegistersFit (registersAfter kind r)
+unfolding registersAfter registersBy
+registers-fit (Set a) r k = k
+registers-fit (Query q) r k = asked-fits r k q
+registers-fit (Act a) r k = by (change.isClear a) where
+  by : (t : Bool) → RegistersFit (cond t allCleared r)
+  by true = record { standard = omega arith; lia = omega arith; errors = omega arith }
+  by false = k
 
 enables-fit : (kind : Kind) (e : Enables) → EnablesFit e → EnablesFit (enablesAfter kind e)
 unfolding enablesAfter
@@ -194,21 +192,35 @@ enables-fit (Set a) e k = set-fits e k a
 enables-fit (Query q) e k = k
 enables-fit (Act a) e k = k
 
-changed-sized : (kind : Kind) (s : State) → Sized s → Sized (changedBy kind s)
+changed-sized : (kind : Kind) (p : Sampled) (s : State) → Sized s → Sized (changedBy kind p s)
 unfolding changedBy
-changed-sized kind s k =
+changed-sized kind p s k =
     record {
       full = settings-full kind (s .settings) (k .full);
-      registers = registers-fit kind s (k .registers);
+      registers = registers-fit kind (s .registers) (k .registers);
       enables = enables-fit kind (s .enables) (k .enables);
     }
 
+-- a trigger, by the event or by TRIG
+triggered-sized : (s : State) → Sized s → Sized (sampledBy (triggerOf s) s)
+unfolding sampledBy
+triggered-sized s k = record { full = k .full; registers = trigger-fits s (k .registers); enables = k .enables }
+
+acted-sized : (a : Action) (s : State) → Sized s → Sized (stateAfter (Act a) s)
+unfolding stateAfter storageAfter storageBy triggerOf
+acted-sized Trigger s k = triggered-sized s k
+acted-sized Reset s k = changed-sized (Act Reset) _ s k
+acted-sized Clear s k = changed-sized (Act Clear) _ s k
+acted-sized Start s k = changed-sized (Act Start) _ s k
+acted-sized Pause s k = changed-sized (Act Pause) _ s k
+acted-sized Empty s k = changed-sized (Act Empty) _ s k
+
 -- a command that is done, and one that is refused
 pub after-sized : (kind : Kind) (s : State) → Sized s → Sized (stateAfter kind s)
-unfolding stateAfter
-after-sized (Set a) s k = crossed-sized (detectionNow s) (changedBy (Set a) s) (changed-sized (Set a) s k)
-after-sized (Query q) s k = changed-sized (Query q) s k
-after-sized (Act a) s k = changed-sized (Act a) s k
+after-sized (Set a) s k =
+    unfold stateAfter in crossed-sized (detectionNow s) (changedBy (Set a) _ s) (changed-sized (Set a) _ s k)
+after-sized (Query q) s k = unfold stateAfter in changed-sized (Query q) _ s k
+after-sized (Act a) s k = acted-sized a s k
 
 pub marked-sized : (r : Refusal) (s : State) → Sized s → Sized (markedBy r s)
 unfolding markedBy
@@ -221,9 +233,8 @@ marked-sized r s k =
 
 -- a trigger, and a measured frequency
 pub trigger-sized : (s : State) (one two : List ℕ) → Sized s → Sized (eventOf event.Trigger s one two .state)
-unfolding eventOf sampledIn sampledBy
-trigger-sized s one two k =
-    record { full = k .full; registers = trigger-fits s (k .registers); enables = k .enables }
+unfolding eventOf sampledIn
+trigger-sized s one two k = triggered-sized s k
 
 pub measured-sized : (f : ℕ) (s : State) (one two : List ℕ) → Sized s
     → Sized (eventOf (event.Measured f) s one two .state)
@@ -239,7 +250,7 @@ measured-sized f s one two k = by (eqb (valueOf (s .settings) fmod) 1) (takesFre
   by true b = k
   by false true =
       crossed-sized (detectionNow s) (withExternal f s)
-      (unfold withExternal in record { full = k .full; registers = k .registers; enables = k .enables })
+      (record { full = k .full; registers = k .registers; enables = k .enables })
   by false false =
       record {
         full = k .full;

@@ -21,7 +21,7 @@ use Rattle.command.specs.declared.Kind.{Kind}
 use Rattle.command.specs.declared.Kind.the-variants.{Set, Query, Act}
 use Rattle.command.specs.declared.Parsed.{Parsed}
 use Rattle.command.specs.declared.Parsed.the-variants as parsed
-use Rattle.state.specs.State.{detectionNow, crossedFrom}
+use Rattle.state.specs.State.{atFrequency, detectionNow, crossedFrom}
 use Rattle.state.specs.Storing.{triggerOf, sampledBy}
 use Rattle.state.specs.declared.Moving.{Moving}
 use Rattle.state.specs.declared.State.{State}
@@ -241,12 +241,12 @@ module _ (x : Settings) (s : State) (a : Alike (s .settings) x) (k : keepsAll (s
       taken = crossedFrom (detectionNow s) (withExternal (highest x) s)
 
       by : (t : Bool) → (cond t s taken .unit ≡ s .unit) × Alike (cond t s taken .settings) x
-          × (cond t s taken .moving ≡ cond t m (record { external = highest x; storage = m .storage }))
+          × (cond t s taken .moving ≡ cond t m (atFrequency (highest x) m))
       by true = (refl, a, e)
       by false = (
-        unfold crossedFrom withExternal in refl,
-        alike-then (crossed-settings (detectionNow s) (withExternal (highest x) s)) (unfold withExternal in a),
-        crossed-moving (detectionNow s) (withExternal (highest x) s) ∙ (unfold withExternal in ap (λ (n : Moving). record { external = highest x; storage = n .storage }) e),
+        unfold crossedFrom in refl,
+        alike-then (crossed-settings (detectionNow s) (withExternal (highest x) s)) a,
+        crossed-moving (detectionNow s) (withExternal (highest x) s) ∙ ap (atFrequency (highest x)) e,
       )
 
 pub triggered-at : (capacity : ℕ) (x : Settings) (s : State) (m : Moving) (one two : List ℕ) → s .unit .capacity ≡ capacity → Alike (s .settings) x → s .moving ≡ m →

@@ -14,11 +14,12 @@ use Rattle.refusal.specs.declared.Outcome.the-variants.{Done, Refused}
 use Rattle.refusal.specs.declared.Answer.the-variants as answer
 use Rattle.clean.specs.Texts.{textsOf}
 use Rattle.status.specs.Status.{mayRaise, withRaised}
-use Rattle.state.specs.State.{withRegisters}
+use Rattle.state.specs.State.{pairOf, withRegisters, withLatest}
+use Rattle.state.specs.Allowed.{keepsLatest}
 use Rattle.state.specs.declared.State.{State}
 use Rattle.state.specs.declared.Unit as unit
 use Rattle.line.specs.Line.{runAll, startLine, lineOf}
-use Rattle.event.specs.Event.{legalPair, withLatest, done, refused, pairTaken, bitsRaised, sampledIn, eventOf}
+use Rattle.event.specs.Event.{done, refused, pairTaken, bitsRaised, sampledIn, eventOf}
 use Rattle.event.specs.declared.Event.{Event}
 use Rattle.event.specs.declared.Event.the-variants.{Latest, Tick, Trigger, Measured, Raised}
 use Rattle.event.proofs.Refused.{event-refused}
@@ -271,7 +272,8 @@ either-refused false a s r p = cc
 event-number : (e : Event) (s : State) (one two : List ℕ) (r : Refusal) →
     eventOf e s one two .outcome ≡ Refused r → r ≡ BadEvent
 unfolding eventOf pairTaken bitsRaised sampledIn
-event-number (Latest w v) s one two r p = either-refused (legalPair w v) (withLatest w v s) s r p
+event-number (Latest w v) s one two r p =
+    either-refused (keepsLatest (pairOf w v)) (withLatest (pairOf w v) s) s r p
 event-number Tick s one two r p = never (cc)
 event-number Trigger s one two r p = never (cc)
 event-number (Measured f) s one two r p = never (cc)

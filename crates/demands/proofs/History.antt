@@ -27,23 +27,23 @@ use Rattle.command.specs.declared.Kind.the-variants.{Set, Query, Act}
 use Rattle.command.specs.declared.Parsed.{Parsed}
 use Rattle.command.specs.declared.Parsed.the-variants as parsed
 use Rattle.status.specs.Status.{withLia, withRaised, mayRaise}
-use Rattle.state.specs.State.{samplingOf, withRegisters, detectionNow, crossedFrom, markedBy}
+use Rattle.state.specs.State.{pairOf, samplingOf, withRegisters, withLatest, detectionNow, crossedFrom, markedBy}
 use Rattle.state.specs.Storing.{triggerOf, tickOf, sampledBy, storedIn}
-use Rattle.state.specs.Allowed.{allowedState}
+use Rattle.state.specs.Allowed.{keepsLatest, allowedState}
 use Rattle.state.specs.declared.State.{State}
 use Rattle.allow.specs.Allows.{valueAllowed, setAllowed, allowsOf}
-use Rattle.change.specs.Change.{withPair, setIn, restoredBy, settingsAfter, storageBy, storageAfter, movingAfter}
+use Rattle.change.specs.Change.{withPair, setIn, restoredBy, settingsAfter, storageBy, storageAfter}
 use Rattle.change.specs.Change.{changedBy, stateAfter}
 use Rattle.reply.specs.Reply.{fitsIn}
 use Rattle.answer.specs.Reply.{replyOf}
 use Rattle.line.specs.Perform.{Effect, doneBy, performed, commandOf}
 use Rattle.line.specs.Line.{Line, waits, startLine, afterOf, stepOf, runAll, lineOf}
 use Rattle.clean.specs.Texts.{textsOf}
-use Rattle.event.specs.Event.{notTaken, done, refused, withLatest, legalPair, pairTaken, takesFrequency, withExternal}
+use Rattle.event.specs.Event.{notTaken, done, refused, pairTaken, takesFrequency, withExternal}
 use Rattle.event.specs.Event.{measuredBy, bitsRaised, sampledIn, eventOf}
 use Rattle.event.specs.declared.Event.{Event}
 use Rattle.event.specs.declared.Event.the-variants as event
-use Rattle.event.proofs.Crossed.{sound}
+use Rattle.state.proofs.Sound.{sound}
 use Rattle.demands.specs.Allowed.{Stays}
 use Rattle.demands.specs.Points.{History, Holds, afterTick, afterTrigger, afterEvent, afterAction, afterKind}
 use Rattle.demands.specs.Points.{afterText, afterTexts}
@@ -187,7 +187,7 @@ module _ (history : History) (s : State) (one two : List ℕ) (h : Holds history
   As t = Holds history t one two
 
   measured-holds : (x : ℕ) → As (measuredBy x s)
-  unfolding measuredBy withExternal crossedFrom
+  unfolding measuredBy crossedFrom
   measured-holds x = by (eqb (valueOf (s .settings) fmod) 1) (takesFrequency s x) where
     by : (a b : Bool) →
         As (cond a s
@@ -199,10 +199,10 @@ module _ (history : History) (s : State) (one two : List ℕ) (h : Holds history
     by false false = like-holds history s (withRegisters (withLia (s .registers) notTaken) s) one two h refl refl refl
 
   pair-holds : (w v : ℕ) → As (pairTaken w v s .state)
-  unfolding pairTaken withLatest
-  pair-holds w v = by (legalPair w v) where
-    by : (t : Bool) → As (cond t (done (withLatest w v s)) (refused s) .state)
-    by true = like-holds history s (withLatest w v s) one two h refl refl refl
+  unfolding pairTaken
+  pair-holds w v = by (keepsLatest (pairOf w v)) where
+    by : (t : Bool) → As (cond t (done (withLatest (pairOf w v) s)) (refused s) .state)
+    by true = like-holds history s (withLatest (pairOf w v) s) one two h refl refl refl
     by false = h
 
   raised-holds : (lia errors : ℕ) → As (bitsRaised lia errors s .state)
@@ -258,20 +258,20 @@ module _ (history : History) (s : State) (one two : List ℕ) (h : Holds history
   settings-set (set.EnableBit r i v) k p shot = h .whole shot
 
   set-holds : (a : SetArgument) → SaneSet a → setAllowed (s .settings) (s .moving) a ≡ true → As (stateAfter (Set a) s)
-  unfolding stateAfter changedBy crossedFrom settingsAfter movingAfter storageAfter
+  unfolding stateAfter changedBy crossedFrom settingsAfter storageAfter
   set-holds a k p =
       same-holds history s (stateAfter (Set a) s) one two h refl (record { held = refl; next = refl })
       (λ shot.
       settings-set a k p (sym (getD-set-other (setIn (s .settings) a .values) oflt send _ 0 (omega arith)) ∙ shot))
 
   query-holds : (q : QueryArgument) → As (stateAfter (Query q) s)
-  unfolding stateAfter changedBy settingsAfter movingAfter storageAfter
+  unfolding stateAfter changedBy settingsAfter storageAfter
   query-holds q = like-holds history s (stateAfter (Query q) s) one two h refl refl refl
 
   act-holds : (a : Action) (reply : List ℕ) →
       let e = doneBy (Act a) reply s one two in
       Holds (afterAction a s history) (e .state) (e .one) (e .two)
-  unfolding doneBy stateAfter changedBy settingsAfter restoredBy movingAfter storageAfter storageBy storedIn triggerOf
+  unfolding doneBy stateAfter changedBy settingsAfter restoredBy sampledBy storageAfter storageBy storedIn triggerOf
       afterAction
   act-holds action.Reset reply = emptied-holds (stateAfter (Act action.Reset) s) one two refl
   act-holds action.Empty reply = emptied-holds (stateAfter (Act action.Empty) s) one two refl

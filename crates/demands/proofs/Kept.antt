@@ -17,9 +17,9 @@ use Rattle.settings.proofs.Every.{every-at}
 use Rattle.command.specs.declared.SetArgument.the-variants as set
 use Rattle.command.specs.declared.Kind.the-variants.{Set}
 use Rattle.state.specs.Allowed.{keepsParts, allowedState}
-use Rattle.state.specs.State.{detectionNow, crossedFrom}
+use Rattle.state.specs.State.{crossedFrom}
 use Rattle.state.specs.declared.State.{State}
-use Rattle.change.specs.Change.{withPair, setIn, settingsAfter, externalAfter, movingAfter, changedBy, stateAfter}
+use Rattle.change.specs.Change.{withPair, setIn, settingsAfter, externalAfter, changedBy, stateAfter}
 use Rattle.reply_text.specs.ReplyText.{valueNow}
 
 -- every value of an allowed state may be kept
@@ -64,7 +64,7 @@ module _ (t : State) (full : length (t .settings .values) ≡ entries) where
   there entry v h = getD-set-same (t .settings .values) entry v 0 (omega arith)
 
   oflt-after : (v : ℕ) → valueOf (stateAfter (Set (set.Value oflt v)) t .settings) oflt ≡ v
-  unfolding stateAfter crossedFrom changedBy settingsAfter movingAfter externalAfter setIn detectionNow
+  unfolding stateAfter crossedFrom changedBy settingsAfter externalAfter setIn
   oflt-after v =
       let changed = ListN.set (t .settings .values) oflt v in
       getD-set-same changed oflt _ 0 (omega (arith, length-set (t .settings .values) oflt v))

@@ -23,7 +23,7 @@ use Rattle.queue.specs.declared.Ended.the-variants as ended
 use Rattle.line.specs.Line.{lineOf}
 use Rattle.event.specs.Event.{eventOf}
 use Rattle.event.specs.declared.Event.{Event}
-use Rattle.event.proofs.Crossed.{sound}
+use Rattle.state.proofs.Sound.{sound, capacity-known}
 use Rattle.module.specs.Start.{freshModule, startOf}
 use Rattle.module.specs.Module.{allowedModule, guardOf}
 use Rattle.module.specs.declared.Module.{Module}
@@ -32,7 +32,6 @@ use Rattle.lockin.specs.Calls.{EventCall, occurred, guardedEvent, eventCall}
 use Rattle.demands.specs.Points.{History, Holds, unlessRefused, afterLine, afterLineCall, afterEnded}
 use Rattle.demands.specs.Points.{afterByteCall, afterEvent, afterEventCall, Stored, byStart, byLine, byByte}
 use Rattle.demands.specs.Points.{byEvent, PointsKept, traceQuery, RepliesPoints}
-use Rattle.demands.proofs.Change.{capacity-known}
 use Rattle.demands.proofs.StaysAllowed.{passes, start-by}
 use Rattle.demands.proofs.History.{Fits, emptied-holds, event-holds, marked-holds, line-holds}
 use Rattle.demands.proofs.Says.{asked-call, asked-refused}

@@ -29,7 +29,7 @@ use Rattle.command.specs.declared.SetArgument.{SetArgument}
 use Rattle.command.specs.declared.SetArgument.the-variants as set
 use Rattle.command.specs.declared.Kind.the-variants.{Set}
 use Rattle.state.specs.Allowed.{keepsParts, keepsLatest, keepsUnit, allowedState}
-use Rattle.state.specs.State.{detectionNow, crossedFrom}
+use Rattle.state.specs.State.{withSettings, withRegisters, detectionNow, crossedFrom}
 use Rattle.state.specs.declared.Moving.{Moving}
 use Rattle.state.specs.declared.State.{State}
 use Rattle.allow.specs.Allows.{keepsLimit, valueAllowed, setAllowed}
@@ -109,14 +109,9 @@ unfolding crossedFrom crossingOf
 crossed-same s = by (above200 (detectionNow s)) where
   by : (t : Bool) →
       let shortens = (not t && t) && leb 14 (valueOf (s .settings) oflt) in
-      record {
-        settings = withValue (s .settings) oflt (cond shortens 13 (valueOf (s .settings) oflt));
-        moving = s .moving;
-        registers = status.withLia (s .registers) (cond ((not t && t) || (not t && t)) 16 0 + cond shortens 32 0);
-        enables = s .enables;
-        latest = s .latest;
-        unit = s .unit;
-      } ≡ s
+      withSettings (withValue (s .settings) oflt (cond shortens 13 (valueOf (s .settings) oflt)))
+      (withRegisters
+      (status.withLia (s .registers) (cond ((not t && t) || (not t && t)) 16 0 + cond shortens 32 0)) s) ≡ s
   by true = rw (set-getD (s .settings .values) oflt 0, or-zero-r (s .registers .lia)) refl
   by false = rw (set-getD (s .settings .values) oflt 0, or-zero-r (s .registers .lia)) refl
 

@@ -1,44 +1,24 @@
 -- Commands, lines and events lead from allowed states to allowed ones. Assumes nothing.
 use Prim.Native.Nat.{ℕ, _-_}
-use mathlib.Core.Path.{_≡_, refl, _∙_}
+use mathlib.Core.Path.{refl, _∙_}
 use mathlib.Core.Bool.{Bool, true, false, cond}
 use mathlib.Core.List.{List, [], _∷_}
 use lib.ListN.{length}
 use Rattle.command.specs.Parsed.{parsedOf}
-use Rattle.command.specs.declared.Kind.{Kind}
-use Rattle.command.specs.declared.Kind.the-variants.{Set, Query, Act}
-use Rattle.point.specs.Point.{isLegal}
-use Rattle.status.proofs.Kept.{start-keeps}
-use Rattle.status.specs.Status.{startRegisters, startEnables}
-use Rattle.state.specs.State.{startState, crossedFrom, markedBy}
-use Rattle.state.specs.Allowed.{keepsLatest, keepsUnit, allowedState}
-use Rattle.state.specs.declared.Unit.{Unit}
+use Rattle.state.specs.State.{markedBy}
 use Rattle.state.specs.declared.State.{State}
-use Rattle.change.specs.Change.{changedBy, stateAfter}
+use Rattle.state.proofs.Sound.{start-allowed}
+use Rattle.change.proofs.After.{after-unit}
 use Rattle.line.specs.Perform.{Effect, sampledBy, doneBy, commandOf}
 use Rattle.line.specs.Line.{Line, waits, afterOf, stepOf, runAll, startLine, lineOf}
 use Rattle.clean.specs.Texts.{textsOf}
 use Rattle.event.proofs.Stays.{event-stays, event-unit, event-first, event-second, stored-length}
 use Rattle.demands.specs.Allowed.{Stays, StatesStay}
 use Rattle.demands.proofs.Sane.{parsed-sane}
-use Rattle.demands.proofs.Change.{fresh-allowed, after-stays, marked-stays}
+use Rattle.demands.proofs.Change.{after-stays, marked-stays}
 use Rattle.demands.proofs.Command.{command-by}
 
-start-latest : keepsLatest (record { one = 0; two = 0 }) ≡ true
-unfolding keepsLatest isLegal
-start-latest = refl
-
-pub start-allowed : (u : Unit) → keepsUnit u ≡ true → allowedState (startState u) ≡ true
-unfolding startState
-start-allowed u k = fresh-allowed startRegisters startEnables (record { one = 0; two = 0 }) u start-keeps start-latest k
-
 -- ---- commands
-
-after-unit : (kind : Kind) (s : State) → stateAfter kind s .unit ≡ s .unit
-unfolding stateAfter changedBy crossedFrom
-after-unit (Set a) s = refl
-after-unit (Query q) s = refl
-after-unit (Act a) s = refl
 
 command-stays : (room : ℕ) (waiting : Bool) (text : List ℕ) (s : State) (one two : List ℕ) →
     let e = commandOf room waiting (parsedOf text) s one two in

@@ -11,10 +11,11 @@ use Rattle.refusal.specs.declared.Refusal.{Refusal}
 use Rattle.refusal.specs.declared.Refusal.the-variants.{LongLine, BadTraces, BadStart, BadState}
 use Rattle.refusal.specs.declared.Outcome.{Outcome}
 use Rattle.refusal.specs.declared.Outcome.the-variants.{Done, Refused}
-use Rattle.state.specs.State.{startState, markedBy}
+use Rattle.state.specs.State.{unitOf, startState, markedBy}
 use Rattle.state.specs.Allowed.{keepsUnit, allowedState}
 use Rattle.state.specs.declared.Unit.{Unit}
 use Rattle.state.specs.declared.State.{State}
+use Rattle.state.proofs.Sound.{start-allowed}
 use Rattle.queue.specs.Queue as queue
 use Rattle.queue.specs.declared.Queue.{Queue}
 use Rattle.queue.specs.declared.Ended.{Ended}
@@ -30,7 +31,7 @@ use Rattle.module.specs.declared.Started.{Started}
 use Rattle.lockin.specs.Calls.{Call, guarded, ran, tooLong, wholeLine, lineCall, endedLine, fedCall, fedByte, byteCall, EventCall, occurred, guardedEvent, eventCall}
 use Rattle.demands.specs.Allowed.{Stays, Goes, Made, byStart, byLine, byByte, byEvent, StaysAllowed}
 use Rattle.demands.proofs.Change.{marked-stays}
-use Rattle.demands.proofs.States.{start-allowed, states-stay}
+use Rattle.demands.proofs.States.{states-stay}
 
 -- ---- refusals 11 and 9
 
@@ -64,24 +65,24 @@ module _ (u : Unit) (k : keepsUnit u ≡ true) where
   fresh-allowed = rw (start-allowed u k, empty-keeps (startState u .unit .port))
 
 start-known : (serial port first second : ℕ) → unitKnown serial port ≡ true → tracesFit first second ≡ true
-    → keepsUnit (record { serial = serial; port = port; capacity = first }) ≡ true
+    → keepsUnit (unitOf serial port first) ≡ true
 unfolding unitKnown tracesFit keepsUnit
 start-known serial port first second p q =
     let unit = and-eq-true-iff (leb serial 99999) (leb port 1) .0 p in
     let traces = and-eq-true-iff (eqb first second) (leb 1 first && leb first 16383) .0 q in
     rw (unit .0, unit .1) (traces .1)
 
-refused-allowed : allowedModule (freshModule (record { serial = 0; port = 1; capacity = 1 })) ≡ true
+refused-allowed : allowedModule (freshModule (unitOf 0 1 1)) ≡ true
 unfolding keepsUnit
-refused-allowed = fresh-allowed (record { serial = 0; port = 1; capacity = 1 }) refl
+refused-allowed = fresh-allowed (unitOf 0 1 1) refl
 
 start-passes : (serial port first second : ℕ) → unitKnown serial port ≡ true → tracesFit first second ≡ true
-    → Passes (freshModule (record { serial = serial; port = port; capacity = first })) first second
+    → Passes (freshModule (unitOf serial port first)) first second
 unfolding freshModule startState tracesFit
 start-passes serial port first second p q =
     let same = eqb-true first second (and-eq-true-iff (eqb first second) (leb 1 first && leb first 16383) .0 q .0) in
     record {
-      allowed = fresh-allowed (record { serial = serial; port = port; capacity = first }) (start-known serial port first second p q);
+      allowed = fresh-allowed (unitOf serial port first) (start-known serial port first second p q);
       first-fits = eq-eqb first first refl;
       second-fits = eq-eqb second first (sym same);
     }
@@ -90,13 +91,13 @@ start-passes serial port first second p q =
 module _ (serial port first second : ℕ) (P : Started → Type 0)
     (refused : (r : Refusal) → P (refusedStart r))
     (done : unitKnown serial port ≡ true → tracesFit first second ≡ true
-    → P (record { after = freshModule (record { serial = serial; port = port; capacity = first }); outcome = Done }))
+    → P (record { after = freshModule (unitOf serial port first); outcome = Done }))
   where
     pub start-by : P (startOf serial port first second)
     unfolding startOf
     start-by = by (unitKnown serial port) (tracesFit first second) refl refl where
       by : (a b : Bool) → unitKnown serial port ≡ a → tracesFit first second ≡ b
-          → P (cond a (cond b (record { after = freshModule (record { serial = serial; port = port; capacity = first }); outcome = Done }) (refusedStart BadTraces)) (refusedStart BadStart))
+          → P (cond a (cond b (record { after = freshModule (unitOf serial port first); outcome = Done }) (refusedStart BadTraces)) (refusedStart BadStart))
       by true true p q = done p q
       by true false p q = refused BadTraces
       by false b p q = refused BadStart
@@ -112,14 +113,14 @@ Whole m = (allowedModule m ≡ true) × (length (m .queue .bytes) ≡ queue.line
 start-made : (serial port first second : ℕ) → Whole (startOf serial port first second .after)
 start-made serial port first second =
     start-by serial port first second (λ s. Whole (s .after))
-    (λ r. (refused-allowed, fresh-queued (record { serial = 0; port = 1; capacity = 1 })))
-    (λ p q. (start-passes serial port first second p q .allowed, fresh-queued (record { serial = serial; port = port; capacity = first })))
+    (λ r. (refused-allowed, fresh-queued (unitOf 0 1 1)))
+    (λ p q. (start-passes serial port first second p q .allowed, fresh-queued (unitOf serial port first)))
 
 start-goes : (serial port first second : ℕ) → startOf serial port first second .outcome ≡ Done
     → guardOf (startOf serial port first second .after) first second ≡ Done
 start-goes serial port first second =
     start-by serial port first second (λ s. s .outcome ≡ Done → guardOf (s .after) first second ≡ Done) (λ r e. refused-never r e)
-    (λ p q e. passed (freshModule (record { serial = serial; port = port; capacity = first })) first second (start-passes serial port first second p q))
+    (λ p q e. passed (freshModule (unitOf serial port first)) first second (start-passes serial port first second p q))
 
 -- ---- calls
 

@@ -19,11 +19,10 @@ use Rattle.name.specs.declared.Action.the-variants.{Trigger}
 use Rattle.command.specs.Arguments.{arguments}
 use Rattle.command.specs.Parsed.{parsedOf, alone, setWith}
 use Rattle.command.specs.declared.Kind.the-variants.{Act}
-use Rattle.state.specs.Storing.{triggerOf, sampledBy}
+use Rattle.state.specs.Storing.{triggerOf}
 use Rattle.state.specs.declared.State.{State}
 use Rattle.allow.specs.Allows.{allowsOf}
-use Rattle.change.specs.Change.{settingsAfter, restoredBy, storageBy, storageAfter, externalBy, externalAfter}
-use Rattle.change.specs.Change.{movingAfter, registersBy, registersAfter, enablesAfter, changedBy, stateAfter}
+use Rattle.change.specs.Change.{storageBy, storageAfter, stateAfter}
 use Rattle.reply.specs.Reply.{fitsIn}
 use Rattle.answer.specs.Reply.{replyOf}
 use Rattle.line.specs.Perform.{Effect, doneBy, performed, commandOf}
@@ -47,9 +46,7 @@ triggered s one two =
     record { state = e .state; one = e .one; two = e .two; out = []; outcome = e .outcome }
 
 trig-done : (s : State) (one two : List ℕ) → doneBy (Act Trigger) [] s one two ≡ triggered s one two
-unfolding doneBy stateAfter changedBy settingsAfter restoredBy movingAfter externalAfter externalBy storageAfter
-    storageBy registersAfter registersBy enablesAfter eventOf
-    sampledIn sampledBy triggerOf
+unfolding doneBy stateAfter storageAfter storageBy eventOf sampledIn triggerOf
 trig-done s one two = refl
 
 trig-performed : (room : ℕ) (waiting : Bool) (s : State) (one two : List ℕ) →

@@ -1,4 +1,3 @@
 -- Laws on events.
-pub mod Crossed
 pub mod Stays
 pub mod Refused

@@ -7,9 +7,10 @@ use mathlib.Core.Path.{_≡_, refl}
 use Rattle.refusal.specs.declared.Refusal.the-variants.{BadEvent}
 use Rattle.refusal.specs.declared.Outcome.the-variants.{Done, Refused}
 use Rattle.status.specs.Status.{withRaised, mayRaise}
-use Rattle.state.specs.State.{withRegisters}
+use Rattle.state.specs.State.{pairOf, withRegisters, withLatest}
+use Rattle.state.specs.Allowed.{keepsLatest}
 use Rattle.state.specs.declared.State.{State}
-use Rattle.event.specs.Event.{Occurred, done, refused, withLatest, legalPair, pairTaken, bitsRaised, sampledIn, eventOf}
+use Rattle.event.specs.Event.{Occurred, done, refused, pairTaken, bitsRaised, sampledIn, eventOf}
 use Rattle.event.specs.declared.Event.{Event}
 use Rattle.event.specs.declared.Event.the-variants.{Latest, Tick, Trigger, Measured, Raised}
 
@@ -23,7 +24,8 @@ done-never : {A : Type 0} → Done ≡ Refused BadEvent → A
 done-never p = let z : _≡_ {A = ℕ} 0 1 = cc in absurd (omega arith)
 
 -- what is taken or refused, by a test
-either : (t : Bool) (a s : State) → cond t (done a) (refused s) .outcome ≡ Refused BadEvent → cond t (done a) (refused s) .state ≡ s
+either : (t : Bool) (a s : State) → cond t (done a) (refused s) .outcome ≡ Refused BadEvent
+    → cond t (done a) (refused s) .state ≡ s
 either true a s p = done-never p
 either false a s p = refl
 
@@ -31,9 +33,17 @@ pub event-refused : (e : Event) (s : State) (one two : List ℕ) → eventOf e s
     → Unchanged (eventOf e s one two) s one two
 unfolding eventOf pairTaken bitsRaised sampledIn
 event-refused (Latest w v) s one two p =
-    record { state = either (legalPair w v) (withLatest w v s) s p; first = refl; second = refl }
+    record {
+      state = either (keepsLatest (pairOf w v)) (withLatest (pairOf w v) s) s p;
+      first = refl;
+      second = refl;
+    }
 event-refused Tick s one two p = done-never p
 event-refused Trigger s one two p = done-never p
 event-refused (Measured f) s one two p = done-never p
 event-refused (Raised lia errors) s one two p =
-    record { state = either (mayRaise lia errors) (withRegisters (withRaised (s .registers) lia errors) s) s p; first = refl; second = refl }
+    record {
+      state = either (mayRaise lia errors) (withRegisters (withRaised (s .registers) lia errors) s) s p;
+      first = refl;
+      second = refl;
+    }

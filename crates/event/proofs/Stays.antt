@@ -1,27 +1,27 @@
--- Every event leads from an allowed state to an allowed one, and leaves what is fixed at start and the traces' lengths. Assumes nothing.
+-- Every event leads from an allowed state to an allowed one, and leaves what is fixed at start and the traces' lengths.
+-- Assumes nothing.
 use Prim.Native.Nat.{ℕ, _*_}
-use mathlib.Core.Bool.{Bool, true, false, cond, _||_, and-eq-true-iff}
+use mathlib.Core.Bool.{Bool, true, false, cond, and-eq-true-iff}
 use mathlib.Core.List.{List}
 use mathlib.Core.Path.{_≡_, refl}
-use lib.Bits.{bitAnd}
 use lib.Dec.{eqb}
 use lib.ListN.{length, set, length-set}
-use Rattle.settings.specs.Table.{fmod, harm, send, valueOf}
+use Rattle.settings.specs.Table.{fmod, harm, valueOf}
 use Rattle.settings.specs.Frequency.{inForce, detectionOf, withinLimit, frequencyInRange}
-use Rattle.storage.specs.Storage as storage
 use Rattle.storage.specs.declared.Sampled.{Sampled}
-use Rattle.storage.proofs.Stays.{ticked-keeps, triggered-keeps}
 use Rattle.status.specs.Status as status
 use Rattle.status.specs.declared.Registers.{Registers}
 use Rattle.status.proofs.Kept.{lia-keeps, raised-keeps}
-use Rattle.state.specs.State.{withRegisters, detectionNow, crossedFrom, samplingOf}
+use Rattle.state.specs.State.{pairOf, atFrequency, withRegisters, withLatest, detectionNow, crossedFrom}
 use Rattle.state.specs.Storing.{triggerOf, tickOf, sampledBy, storedIn}
 use Rattle.state.specs.Allowed.{keepsLatest, allowedState}
 use Rattle.state.specs.declared.State.{State}
-use Rattle.event.specs.Event.{notTaken, done, refused, withLatest, legalPair, pairTaken, takesFrequency, withExternal, measuredBy, bitsRaised, sampledIn, eventOf}
+use Rattle.state.proofs.Sound.{Tuning, sound, sound-allowed, with-moving, with-status, with-latest, crossed-allowed}
+use Rattle.state.proofs.Sound.{tick-allowed, trigger-allowed}
+use Rattle.event.specs.Event.{notTaken, done, refused, pairTaken, takesFrequency, withExternal, measuredBy}
+use Rattle.event.specs.Event.{bitsRaised, sampledIn, eventOf}
 use Rattle.event.specs.declared.Event.{Event}
 use Rattle.event.specs.declared.Event.the-variants.{Latest, Tick, Trigger, Measured, Raised}
-use Rattle.event.proofs.Crossed.{sound, stands-now, sound-allowed, crossed-allowed}
 
 -- what stays
 pub record Stays (e : Event) (s : State) (one two : List ℕ) : Type 0 where
@@ -35,121 +35,68 @@ pub record Stays (e : Event) (s : State) (one two : List ℕ) : Type 0 where
 module _ (s : State) (h : allowedState s ≡ true) where
   -- other registers
   registers-stay : (r : Registers) → status.keepsOf r (s .enables) ≡ true → allowedState (withRegisters r s) ≡ true
-  unfolding detectionNow
-  registers-stay r p =
-      let k = sound s h in
-      sound-allowed (withRegisters r s)
-      (record {
-        values = k .values;
-        external = k .external;
-        limit = k .limit;
-        stored = k .stored;
-        bits = p;
-        latest = k .latest;
-        unit = k .unit;
-      })
-      (stands-now s h)
+  registers-stay r p = sound-allowed (withRegisters r s) (with-status (sound s h) r (s .enables) p)
 
-  latest-stays : (w v : ℕ) → legalPair w v ≡ true → allowedState (withLatest w v s) ≡ true
-  unfolding withLatest detectionNow legalPair keepsLatest
-  latest-stays w v p =
-      let k = sound s h in
-      sound-allowed (withLatest w v s)
-      (record {
-        values = k .values;
-        external = k .external;
-        limit = k .limit;
-        stored = k .stored;
-        bits = k .bits;
-        latest = p;
-        unit = k .unit;
-      })
-      (stands-now s h)
-
+  -- a new latest pair, taken or refused
   pair-stays : (w v : ℕ) → allowedState (pairTaken w v s .state) ≡ true
   unfolding pairTaken
-  pair-stays w v = by (legalPair w v) refl where
-    by : (t : Bool) → legalPair w v ≡ t → allowedState (cond t (done (withLatest w v s)) (refused s) .state) ≡ true
-    by true p = latest-stays w v p
+  pair-stays w v = by (keepsLatest (pairOf w v)) refl where
+    by : (t : Bool) → keepsLatest (pairOf w v) ≡ t
+        → allowedState (cond t (done (withLatest (pairOf w v) s)) (refused s) .state) ≡ true
+    by true p = sound-allowed (withLatest (pairOf w v) s) (with-latest (sound s h) (pairOf w v) p)
     by false p = h
 
+  -- raised bits, taken or refused
   raised-stays : (lia errors : ℕ) → allowedState (bitsRaised lia errors s .state) ≡ true
   unfolding bitsRaised
   raised-stays lia errors = by (status.mayRaise lia errors) refl where
     by : (t : Bool) → status.mayRaise lia errors ≡ t
-        → allowedState (cond t (done (withRegisters (status.withRaised (s .registers) lia errors) s)) (refused s) .state) ≡ true
+        → allowedState
+        (cond t (done (withRegisters (status.withRaised (s .registers) lia errors) s)) (refused s) .state) ≡ true
     by true p =
-        registers-stay (status.withRaised (s .registers) lia errors) (raised-keeps (s .registers) (s .enables) (sound s h .bits) lia errors p)
+        registers-stay (status.withRaised (s .registers) lia errors)
+        (raised-keeps (s .registers) (s .enables) (sound s h .bits) lia errors p)
     by false p = h
 
   -- a frequency that is taken is in its range, and the detection frequency that it makes within the limit
   external-stays : (f : ℕ) → eqb (valueOf (s .settings) fmod) 1 ≡ false → takesFrequency s f ≡ true
       → allowedState (crossedFrom (detectionNow s) (withExternal f s)) ≡ true
-  unfolding withExternal takesFrequency detectionNow detectionOf inForce
+  unfolding takesFrequency
   external-stays f m p =
       let k = sound s h in
       let both = and-eq-true-iff (frequencyInRange f) (withinLimit (valueOf (s .settings) harm * f)) .0 p in
-      crossed-allowed (detectionNow s) (withExternal f s)
-      (record {
-        values = k .values;
+      let t : Tuning (detectionNow s) (s .settings) f =
+      record {
+        values = k .tuned .values;
         external = both .0;
-        limit = rw m (both .1);
-        stored = k .stored;
-        bits = k .bits;
-        latest = k .latest;
-        unit = k .unit;
-      })
-      (stands-now s h)
+        limit = unfold detectionOf inForce in rw m (both .1);
+        stands = k .tuned .stands;
+      } in
+      crossed-allowed (detectionNow s) (withExternal f s)
+      (with-moving k (s .settings) (atFrequency f (s .moving)) t (k .stored))
 
+  -- a measured frequency: ignored, taken, or not taken
   measured-stays : (f : ℕ) → allowedState (measuredBy f s) ≡ true
   unfolding measuredBy
   measured-stays f = by (eqb (valueOf (s .settings) fmod) 1) refl (takesFrequency s f) refl where
     by : (m : Bool) → eqb (valueOf (s .settings) fmod) 1 ≡ m → (t : Bool) → takesFrequency s f ≡ t
         → allowedState
-        (cond m s (cond t (crossedFrom (detectionNow s) (withExternal f s)) (withRegisters (status.withLia (s .registers) notTaken) s)))
+        (cond m s
+        (cond t (crossedFrom (detectionNow s) (withExternal f s))
+        (withRegisters (status.withLia (s .registers) notTaken) s)))
         ≡ true
     by true q t p = h
     by false q true p = external-stays f q p
     by false q false p =
-        registers-stay (status.withLia (s .registers) notTaken) (lia-keeps (s .registers) (s .enables) (sound s h .bits) notTaken refl)
+        registers-stay (status.withLia (s .registers) notTaken)
+        (lia-keeps (s .registers) (s .enables) (sound s h .bits) notTaken refl)
 
-  sampled-stays : (p : Sampled) → storage.keepsOf (p .storage) (s .unit .capacity) (valueOf (s .settings) send) ≡ true
-      → bitAnd (p .bits) status.liaUnused ≡ 0 → allowedState (sampledBy p s) ≡ true
-  unfolding sampledBy detectionNow
-  sampled-stays p kept free =
-      let k = sound s h in
-      sound-allowed (sampledBy p s)
-      (record {
-        values = k .values;
-        external = k .external;
-        limit = k .limit;
-        stored = kept;
-        bits = lia-keeps (s .registers) (s .enables) (k .bits) (p .bits) free;
-        latest = k .latest;
-        unit = k .unit;
-      })
-      (stands-now s h)
-
-  tick-stays : allowedState (sampledBy (tickOf s) s) ≡ true
-  unfolding tickOf samplingOf storage.tickedOf
-  tick-stays = sampled-stays (tickOf s) (ticked-keeps (s .moving .storage) (s .unit .capacity) (samplingOf (s .settings)) (sound s h .stored)) refl
-
-  trigger-stays : allowedState (sampledBy (triggerOf s) s) ≡ true
-  unfolding triggerOf samplingOf storage.triggeredOf
-  trigger-stays =
-      sampled-stays (triggerOf s)
-      (triggered-keeps (s .moving .storage) (s .unit .capacity) (samplingOf (s .settings)) (sound s h .stored))
-      (by (storage.setsRunning (s .moving .storage) (samplingOf (s .settings)) || storage.triggerStores (s .moving .storage) (samplingOf (s .settings))))
-    where
-      by : (t : Bool) → bitAnd (cond t storage.bit6 0) status.liaUnused ≡ 0
-      by true = refl
-      by false = refl
-
-pub event-stays : (e : Event) (s : State) (one two : List ℕ) → allowedState s ≡ true → allowedState (eventOf e s one two .state) ≡ true
+pub event-stays : (e : Event) (s : State) (one two : List ℕ) → allowedState s ≡ true
+    → allowedState (eventOf e s one two .state) ≡ true
 unfolding eventOf sampledIn
 event-stays (Latest w v) s one two h = pair-stays s h w v
-event-stays Tick s one two h = tick-stays s h
-event-stays Trigger s one two h = trigger-stays s h
+event-stays Tick s one two h = tick-allowed s h
+event-stays Trigger s one two h = trigger-allowed s h
 event-stays (Measured f) s one two h = measured-stays s h f
 event-stays (Raised lia errors) s one two h = raised-stays s h lia errors
 
@@ -159,14 +106,15 @@ unit-either : (t : Bool) (a b : State) → a .unit ≡ b .unit → cond t (done 
 unit-either true a b p = p
 unit-either false a b p = refl
 
-unit-measured : (m t : Bool) (a b s : State) → a .unit ≡ s .unit → b .unit ≡ s .unit → cond m s (cond t a b) .unit ≡ s .unit
+unit-measured : (m t : Bool) (a b s : State) → a .unit ≡ s .unit → b .unit ≡ s .unit
+    → cond m s (cond t a b) .unit ≡ s .unit
 unit-measured true t a b s p q = refl
 unit-measured false true a b s p q = p
 unit-measured false false a b s p q = q
 
 pub event-unit : (e : Event) (s : State) (one two : List ℕ) → eventOf e s one two .state .unit ≡ s .unit
-unfolding eventOf pairTaken withLatest bitsRaised measuredBy withExternal crossedFrom sampledIn sampledBy
-event-unit (Latest w v) s one two = unit-either (legalPair w v) (withLatest w v s) s refl
+unfolding eventOf pairTaken bitsRaised measuredBy crossedFrom sampledIn sampledBy
+event-unit (Latest w v) s one two = unit-either (keepsLatest (pairOf w v)) (withLatest (pairOf w v) s) s refl
 event-unit Tick s one two = refl
 event-unit Trigger s one two = refl
 event-unit (Measured f) s one two =

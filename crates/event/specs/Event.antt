@@ -6,19 +6,19 @@ use lib.Dec.{eqb}
 use Rattle.refusal.specs.declared.Refusal.the-variants.{BadEvent}
 use Rattle.refusal.specs.declared.Outcome.{Outcome}
 use Rattle.refusal.specs.declared.Outcome.the-variants.{Done, Refused}
-use Rattle.point.specs.Point.{isLegal}
 use Rattle.settings.specs.Table.{fmod, harm, valueOf}
 use Rattle.settings.specs.Frequency.{withinLimit, frequencyInRange}
 use Rattle.status.specs.Status.{withLia, withRaised, mayRaise}
 use Rattle.storage.specs.declared.Sampled.{Sampled}
-use Rattle.state.specs.State.{withRegisters, detectionNow, crossedFrom}
+use Rattle.state.specs.State.{pairOf, atFrequency, withMoving, withRegisters, withLatest, detectionNow, crossedFrom}
 use Rattle.state.specs.Storing.{triggerOf, tickOf, sampledBy, storedIn}
+use Rattle.state.specs.Allowed.{keepsLatest}
 use Rattle.state.specs.declared.State.{State}
 use Rattle.event.specs.declared.Happened.{Happened}
 use Rattle.event.specs.declared.Event.{Event}
 use Rattle.event.specs.declared.Event.the-variants.{Latest, Tick, Trigger, Measured, Raised}
 
--- the state and both traces after an event, and what is told
+-- the state and both traces after an event, and whether it was refused
 pub record Occurred : Type 0 where
   pub state : State
   pub outcome : Outcome
@@ -37,54 +37,44 @@ refused s = record { state = s; outcome = Refused BadEvent }
 abbrev pub done : State → Happened
 done s = record { state = s; outcome = Done }
 
--- a state with another latest pair
-unfoldable pub withLatest : ℕ → ℕ → State → State
-withLatest w v s =
-    record { settings = s .settings; moving = s .moving; registers = s .registers; enables = s .enables; latest = record { one = w; two = v }; unit = s .unit }
-
--- both points are legal
-unfoldable pub legalPair : ℕ → ℕ → Bool
-legalPair w v = isLegal w && isLegal v
-
 -- "a new latest pair (two points, one per trace ..)"
 unfoldable pub pairTaken : ℕ → ℕ → State → Happened
-pairTaken w v s = cond (legalPair w v) (done (withLatest w v s)) (refused s)
+pairTaken w v s = cond (keepsLatest (pairOf w v)) (done (withLatest (pairOf w v) s)) (refused s)
 
 -- neither "outside 0.001 to 102000 Hz" nor "breaking the 102 kHz limit": asked where the external frequency is in force
 unfoldable pub takesFrequency : State → ℕ → Bool
 takesFrequency s f = frequencyInRange f && withinLimit (valueOf (s .settings) harm * f)
 
 -- a state with another external frequency
-unfoldable pub withExternal : ℕ → State → State
-withExternal f s =
-    record {
-      settings = s .settings;
-      moving = record { external = f; storage = s .moving .storage };
-      registers = s .registers;
-      enables = s .enables;
-      latest = s .latest;
-      unit = s .unit;
-    }
+abbrev pub withExternal : ℕ → State → State
+withExternal f s = withMoving (atFrequency f (s .moving)) s
 
 -- LIA bit 3
 abbrev pub notTaken : ℕ
 notTaken = 2 ^ 3
 
--- "A measured frequency is ignored when FMOD is 1; outside 0.001 to 102000 Hz, or breaking the 102 kHz limit, it is not taken, LIA bit 3 is set
--- and the answer is 0."
+-- "A measured frequency is ignored when FMOD is 1; outside 0.001 to 102000 Hz, or breaking the 102 kHz limit, it is not
+-- taken, LIA bit 3 is set and the answer is 0."
 unfoldable pub measuredBy : ℕ → State → State
 measuredBy f s =
     cond (eqb (valueOf (s .settings) fmod) 1) s
-    (cond (takesFrequency s f) (crossedFrom (detectionNow s) (withExternal f s)) (withRegisters (withLia (s .registers) notTaken) s))
+    (cond (takesFrequency s f) (crossedFrom (detectionNow s) (withExternal f s))
+    (withRegisters (withLia (s .registers) notTaken) s))
 
 -- "raised bits (LIA 0-3; ERR 1, 2, 4-7)"
 unfoldable pub bitsRaised : ℕ → ℕ → State → Happened
-bitsRaised lia errors s = cond (mayRaise lia errors) (done (withRegisters (withRaised (s .registers) lia errors) s)) (refused s)
+bitsRaised lia errors s =
+    cond (mayRaise lia errors) (done (withRegisters (withRaised (s .registers) lia errors) s)) (refused s)
 
 -- a trigger or a tick: the latest pair goes into the traces where it is stored
 unfoldable pub sampledIn : Sampled → State → List ℕ → List ℕ → Occurred
 sampledIn p s one two =
-    record { state = sampledBy p s; outcome = Done; one = storedIn p s (s .latest .one) one; two = storedIn p s (s .latest .two) two }
+    record {
+      state = sampledBy p s;
+      outcome = Done;
+      one = storedIn p s (s .latest .one) one;
+      two = storedIn p s (s .latest .two) two;
+    }
 
 -- "Events: a new latest pair .., tick, trigger, measured frequency, raised bits"
 unfoldable pub eventOf : Event → State → List ℕ → List ℕ → Occurred

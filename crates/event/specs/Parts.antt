@@ -1,5 +1,5 @@
--- What only inner functions are held to: the code's result of an event, whose traces are lent. No promise of a public call
--- speaks of it.
+-- What only inner functions are held to: the code's result of an event, whose traces are lent. No promise of a public
+-- call speaks of it.
 use Prim.Native.Nat.{ℕ}
 use mathlib.Core.Path.{_≡_}
 use mathlib.Core.List.{List}

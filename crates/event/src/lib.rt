@@ -1,47 +1,45 @@
 // Events: a new latest pair, a tick, a trigger, a measured frequency, raised bits.
 ghost use mathlib.Core.Path.{_≡_};
-ghost use Rattle.event.specs.Event.{legalPair, pairTaken, takesFrequency, withExternal, measuredBy, bitsRaised, sampledIn, eventOf};
+ghost use Rattle.event.specs.Event.{pairTaken, takesFrequency, withExternal, measuredBy, bitsRaised};
+ghost use Rattle.event.specs.Event.{sampledIn, eventOf};
 ghost use Rattle.event.specs.Parts.{Occurs};
 use refusal::Outcome;
 use refusal::Refusal;
-use state::Moving;
 use state::Pair;
 use state::State;
 use storage::Sampled;
 
 // LIA bit 3: a measured frequency is not taken.
-const NOT_TAKEN: u8 = 8;
+const NOT_TAKEN: u8 = 0x08;
 
+// What happens to a module beside its input.
 pub enum Event {
+    // A new latest pair: the first trace's point and the second's.
     Latest(u32, u32),
+    // The clock of the sample rate: a pair is stored where storage runs at a rate of its own.
     Tick,
+    // The trigger input: what TRIG does.
     Trigger,
+    // A measured external frequency, in units of 0.1 mHz.
     Measured(u32),
+    // Bits that the hardware raises: LIA's and ERR's.
     Raised(u8, u8),
 }
 
-// The state after an event, and whether it was refused.
+// What came of an event.
 pub struct Happened {
+    // The state after it.
     pub state: State,
+    // Whether it was refused.
     pub outcome: Outcome,
-}
-
-// Whether both points are legal.
-fn legal_pair(w: u32, v: u32) -> bool
-    ensures { λ r. ⌜ r ≡ legalPair w v ⌝ }
-{
-    if point::legal(w) {
-        return point::legal(v);
-    }
-    false
 }
 
 // A new latest pair, of two legal points.
 fn new_pair(s: State, w: u32, v: u32) -> Happened
     ensures { λ r. ⌜ r ≡ pairTaken w v s ⌝ }
 {
-    if legal_pair(w, v) {
-        let latest = Pair { one: w, two: v };
+    let latest = Pair { one: w, two: v };
+    if state::keeps_latest(latest) {
         let mut t = s;
         t.latest = latest;
         return Happened {
@@ -70,14 +68,8 @@ fn takes_frequency(s: State, frequency: u32) -> bool
 fn with_external(s: State, frequency: u32) -> State
     ensures { λ r. ⌜ r ≡ withExternal frequency s ⌝ }
 {
-    let moving = s.moving;
-    let storage = moving.storage;
-    let moved = Moving {
-        external: frequency,
-        storage,
-    };
     let mut t = s;
-    t.moving = moved;
+    t.moving.external = frequency;
     t
 }
 
@@ -118,7 +110,8 @@ fn raised(s: State, lia: u8, errors: u8) -> Happened
 
 // A trigger or a tick: the latest pair goes into the traces where it is stored.
 fn sample(s: State, p: Sampled, one: &mut [u32], two: &mut [u32]) -> Happened
-    ensures { λ r. ⌜ Occurs (sampledIn p s (now (one .entry)) (now (two .entry))) r (now (one .exit)) (now (two .exit)) ⌝ }
+    ensures { λ r. ⌜ Occurs
+        (sampledIn p s (now (one .entry)) (now (two .entry))) r (now (one .exit)) (now (two .exit)) ⌝ }
 {
     state::store(s, p, one, two);
     Happened {
@@ -129,7 +122,8 @@ fn sample(s: State, p: Sampled, one: &mut [u32], two: &mut [u32]) -> Happened
 
 // What an event does to the state and to the traces.
 pub fn occur(s: State, e: Event, one: &mut [u32], two: &mut [u32]) -> Happened
-    ensures { λ r. ⌜ Occurs (eventOf e s (now (one .entry)) (now (two .entry))) r (now (one .exit)) (now (two .exit)) ⌝ }
+    ensures { λ r. ⌜ Occurs
+        (eventOf e s (now (one .entry)) (now (two .entry))) r (now (one .exit)) (now (two .exit)) ⌝ }
 {
     match e {
         Event::Latest(w, v) => new_pair(s, w, v),

@@ -20,8 +20,8 @@ use Rattle.storage.specs.Storage as storage
 use Rattle.status.specs.Bits.{meets}
 use Rattle.status.specs.Status as status
 use Rattle.reply.specs.Reply.{fitsIn, wordAt, formed, pointBytes}
-use Rattle.state.specs.State.{startState, detectionNow, crossedFrom, markedBy, samplingOf}
-use Rattle.state.specs.Storing.{storedIn}
+use Rattle.state.specs.State.{startState, crossedFrom, markedBy, samplingOf}
+use Rattle.state.specs.Storing.{sampledBy, storedIn}
 use Rattle.state.specs.Allowed.{keepsUnit, keepsLatest, keepsParts, allowedState}
 use Rattle.allow.specs.Allows.{keepsLimit, valueAllowed, setAllowed, queryAllowed, allowsOf}
 use Rattle.change.specs.Change.{setIn, restoredBy, settingsAfter, storageBy, storageAfter, movingAfter, changedBy, stateAfter}
@@ -30,7 +30,7 @@ use Rattle.answer.specs.Reply.{endedText, traceReply, queryReply, replyOf}
 use Rattle.refusal.specs.Answer.{firstOf, isNoRoom, drops, numbered, numbersOf}
 use Rattle.line.specs.Perform.{doneBy, performed, commandOf}
 use Rattle.line.specs.Line as line
-use Rattle.event.specs.Event.{withLatest, legalPair, pairTaken, eventOf}
+use Rattle.event.specs.Event.{pairTaken, eventOf}
 use Rattle.queue.specs.Queue as queue
 use Rattle.module.specs.Start.{unitKnown, tracesFit, freshModule, startOf}
 use Rattle.module.specs.Module.{allowedModule, guardOf}
@@ -51,12 +51,12 @@ unfolding span onHead parts allDigits begins unsigned isMantissa isNumber decima
     storage.isReset storage.isRunning storage.isDone storage.startedOf storage.nextSlot storage.heldAfter storage.fullInOneShot storage.storedOf
     storage.readiedOf storage.triggerStores storage.triggeredOf storage.oldestOf storage.holdsOf storage.slotsKept storage.doneKept storage.resetKept
     storage.keepsOf meets status.keepsOf
-    startState detectionNow crossedFrom markedBy samplingOf storedIn keepsUnit keepsLatest keepsParts allowedState
+    startState crossedFrom markedBy samplingOf sampledBy storedIn keepsUnit keepsLatest keepsParts allowedState
     keepsLimit valueAllowed setAllowed queryAllowed allowsOf
     setIn restoredBy settingsAfter storageBy storageAfter movingAfter changedBy stateAfter
     valueNow valueText textOf endedText traceReply queryReply replyOf
     doneBy performed commandOf firstOf isNoRoom drops line.afterOf line.stepOf line.runAll line.lineOf
-    withLatest legalPair pairTaken eventOf queue.noEnd queue.keepsOf
+    pairTaken eventOf queue.noEnd queue.keepsOf
     unitKnown tracesFit freshModule startOf
     numbered numbersOf allowedModule guardOf guarded wholeLine lineCall guardedEvent eventCall
     resets measuredHigh triggeredHigh gapOf kindRefusal textRefusal kindAfter textAfter answerAt textsAnswer textsAfter

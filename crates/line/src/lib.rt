@@ -67,7 +67,7 @@ fn perform(
             let p = change::storage_after(s.settings, moving, unit.capacity, kind);
             state::store(s, p, one, two);
             return Performed {
-                state: change::state_after(s, kind),
+                state: change::state_after(s, kind, p),
                 written: sent.written,
                 outcome: Outcome::Done,
             };

@@ -5,7 +5,7 @@ use lib.Dec.{leb, eqb}
 use Rattle.refusal.specs.declared.Refusal.{Refusal}
 use Rattle.refusal.specs.declared.Refusal.the-variants.{BadTraces, BadStart}
 use Rattle.refusal.specs.declared.Outcome.the-variants.{Done, Refused}
-use Rattle.state.specs.State.{startState}
+use Rattle.state.specs.State.{unitOf, startState}
 use Rattle.state.specs.declared.Unit.{Unit}
 use Rattle.state.specs.Allowed.{serialMost}
 use Rattle.settings.specs.Limits.{capacityLeast, capacityFits}
@@ -27,13 +27,13 @@ freshModule u = record { state = startState u; queue = emptyQueue }
 -- "a start refused by 10 or 9 gives serial 0, GPIB, capacity 1"
 abbrev pub refusedStart : Refusal → Started
 refusedStart r =
-    record { after = freshModule (record { serial = 0; port = gpib; capacity = capacityLeast }); outcome = Refused r }
+    record { after = freshModule (unitOf 0 gpib capacityLeast); outcome = Refused r }
 
 -- "Order: 10, .., 9"; the traces are not written
 unfoldable pub startOf : ℕ → ℕ → ℕ → ℕ → Started
 startOf serial port first second =
     cond (unitKnown serial port)
     (cond (tracesFit first second)
-    (record { after = freshModule (record { serial = serial; port = port; capacity = first }); outcome = Done })
+    (record { after = freshModule (unitOf serial port first); outcome = Done })
     (refusedStart BadTraces))
     (refusedStart BadStart)

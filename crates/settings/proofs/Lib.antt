@@ -9,3 +9,4 @@ pub mod Exact
 pub mod Rounded
 pub mod Kept
 pub mod Stands
+pub mod Values

@@ -1,4 +1,5 @@
--- The states that are allowed: refusal 11, "a state outside the ranges, steps and limits above, its serial and port included".
+-- The states that are allowed: refusal 11, "a state outside the ranges, steps and limits above, its serial and port
+-- included".
 use Prim.Native.Nat.{ℕ}
 use mathlib.Core.Bool.{Bool, _&&_}
 use lib.Dec.{leb}
@@ -21,7 +22,7 @@ serialMost = 99999
 unfoldable pub keepsUnit : Unit → Bool
 keepsUnit u = leb (u .serial) serialMost && (leb (u .port) gpib && capacityFits (u .capacity))
 
--- the latest pair: two legal points
+-- the latest pair, and every pair that an event may make the latest one: two legal points
 unfoldable pub keepsLatest : Pair → Bool
 keepsLatest p = isLegal (p .one) && isLegal (p .two)
 
@@ -29,7 +30,9 @@ keepsLatest p = isLegal (p .one) && isLegal (p .two)
 unfoldable pub keepsParts : State → Bool
 keepsParts s =
     allowedOf (s .settings) (s .moving .external)
-    && (storage.keepsOf (s .moving .storage) (s .unit .capacity) (valueOf (s .settings) send) && status.keepsOf (s .registers) (s .enables))
+    && (storage.keepsOf (s .moving .storage) (s .unit .capacity) (valueOf (s .settings) send)
+    && status.keepsOf (s .registers) (s .enables))
 
+-- every part of the state
 unfoldable pub allowedState : State → Bool
 allowedState s = keepsParts s && (keepsLatest (s .latest) && keepsUnit (s .unit))

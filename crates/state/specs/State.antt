@@ -1,18 +1,32 @@
--- The state at start and after *RST, and what a change of the detection frequency or a refusal does to it: document 01.
+-- The state at start and after *RST, its parts replaced one at a time, and what a change of the detection frequency or
+-- a refusal does to it: document 01, "Settings" and "Refusal numbers".
 use Prim.Native.Nat.{ℕ}
 use Rattle.settings.specs.Table.{oflt, srat, send, tstr, startSettings, valueOf, withValue}
 use Rattle.settings.specs.Frequency.{detectionOf, crossingOf, externalStart}
 use Rattle.settings.specs.declared.Settings.{Settings}
 use Rattle.settings.specs.declared.Crossing.{Crossing}
 use Rattle.storage.specs.Storage.{emptiedStorage}
+use Rattle.storage.specs.declared.Storage.{Storage}
 use Rattle.storage.specs.declared.Sampling.{Sampling}
 use Rattle.status.specs.Status.{startRegisters, startEnables, withLia, withStandard}
 use Rattle.refusal.specs.Meaning.{meaningOf}
 use Rattle.refusal.specs.declared.Refusal.{Refusal}
 use Rattle.status.specs.declared.Registers.{Registers}
+use Rattle.status.specs.declared.Enables.{Enables}
 use Rattle.state.specs.declared.Unit.{Unit}
+use Rattle.state.specs.declared.Pair.{Pair}
 use Rattle.state.specs.declared.Moving.{Moving}
 use Rattle.state.specs.declared.State.{State}
+
+-- ---- the constructors: no other definition lists the fields of a state or of a part
+
+-- what is fixed at start: serial number, port and capacity
+abbrev pub unitOf : ℕ → ℕ → ℕ → Unit
+unitOf serial port capacity = record { serial = serial; port = port; capacity = capacity }
+
+-- a point for each trace
+abbrev pub pairOf : ℕ → ℕ → Pair
+pairOf w v = record { one = w; two = v }
 
 -- "start 1000 Hz"; storage is empty
 abbrev pub startMoving : Moving
@@ -26,38 +40,67 @@ startState u =
       moving = startMoving;
       registers = startRegisters;
       enables = startEnables;
-      latest = record { one = 0; two = 0 };
+      latest = pairOf 0 0;
       unit = u;
     }
 
+-- ---- one part replaced, the others as they were
+
+-- the moving part at another external frequency
+abbrev pub atFrequency : ℕ → Moving → Moving
+atFrequency f m = record { external = f; storage = m .storage }
+
+-- the moving part with another storage
+abbrev pub withStorage : Storage → Moving → Moving
+withStorage t m = record { external = m .external; storage = t }
+
+-- all parts given but for what is fixed at start, which stays
+abbrev pub withParts : Settings → Moving → Registers → Enables → Pair → State → State
+withParts x m r e l s =
+    record { settings = x; moving = m; registers = r; enables = e; latest = l; unit = s .unit }
+
+-- a state with other settings
+abbrev pub withSettings : Settings → State → State
+withSettings x s = withParts x (s .moving) (s .registers) (s .enables) (s .latest) s
+
+-- a state with another moving part
+abbrev pub withMoving : Moving → State → State
+withMoving m s = withParts (s .settings) m (s .registers) (s .enables) (s .latest) s
+
 -- a state with other registers
 abbrev pub withRegisters : Registers → State → State
-withRegisters r s =
-    record { settings = s .settings; moving = s .moving; registers = r; enables = s .enables; latest = s .latest; unit = s .unit }
+withRegisters r s = withParts (s .settings) (s .moving) r (s .enables) (s .latest) s
+
+-- a state with other enables
+abbrev pub withEnables : Enables → State → State
+withEnables e s = withParts (s .settings) (s .moving) (s .registers) e (s .latest) s
+
+-- a state with another latest pair
+abbrev pub withLatest : Pair → State → State
+withLatest l s = withParts (s .settings) (s .moving) (s .registers) (s .enables) l s
+
+-- ---- the detection frequency
 
 -- "The detection frequency is the harmonic times the frequency in force."
-unfoldable pub detectionNow : State → ℕ
+abbrev pub detectionNow : State → ℕ
 detectionNow s = detectionOf (s .settings) (s .moving .external)
 
 -- the crossing from an old detection frequency to the one of the state
 abbrev pub crossingFrom : ℕ → State → Crossing
 crossingFrom old s = crossingOf old (detectionNow s) (valueOf (s .settings) oflt)
 
--- "When a command or event lifts it above 200 Hz, a time constant of 14 or more becomes 13 and LIA bit 5 is set. LIA bit 4 is set at each
--- crossing of 200 Hz": the state once its detection frequency has changed from the old one
+-- "When a command or event lifts it above 200 Hz, a time constant of 14 or more becomes 13 and LIA bit 5 is set. LIA
+-- bit 4 is set at each crossing of 200 Hz": the state once its detection frequency has changed from the old one
 unfoldable pub crossedFrom : ℕ → State → State
 crossedFrom old s =
     let crossing = crossingFrom old s in
-    record {
-      settings = withValue (s .settings) oflt (crossing .constant);
-      moving = s .moving;
-      registers = withLia (s .registers) (crossing .bits);
-      enables = s .enables;
-      latest = s .latest;
-      unit = s .unit;
-    }
+    withSettings (withValue (s .settings) oflt (crossing .constant))
+    (withRegisters (withLia (s .registers) (crossing .bits)) s)
 
--- a refusal's effect on the state, "CMD set", "EXE set", "QRY set", "INP set" or "nothing": its standard event bits and nothing else
+-- ---- refusals and storing
+
+-- a refusal's effect on the state, "CMD set", "EXE set", "QRY set", "INP set" or "nothing": its standard event bits and
+-- nothing else
 unfoldable pub markedBy : Refusal → State → State
 markedBy refusal s = withRegisters (withStandard (s .registers) (meaningOf refusal .bits)) s
 

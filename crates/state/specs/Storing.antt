@@ -6,10 +6,10 @@ use lib.ListN.{set}
 use Rattle.storage.specs.Storage.{triggeredOf, tickedOf}
 use Rattle.storage.specs.declared.Sampled.{Sampled}
 use Rattle.status.specs.Status.{withLia}
-use Rattle.state.specs.State.{samplingOf}
+use Rattle.state.specs.State.{withStorage, withMoving, withRegisters, samplingOf}
 use Rattle.state.specs.declared.State.{State}
 
--- "TRIG and the trigger event do the same"
+-- what a trigger does to storage, by the event and by TRIG
 unfoldable pub triggerOf : State → Sampled
 triggerOf s = triggeredOf (s .moving .storage) (s .unit .capacity) (samplingOf (s .settings))
 
@@ -17,18 +17,12 @@ triggerOf s = triggeredOf (s .moving .storage) (s .unit .capacity) (samplingOf (
 unfoldable pub tickOf : State → Sampled
 tickOf s = tickedOf (s .moving .storage) (s .unit .capacity) (samplingOf (s .settings))
 
--- the state after a trigger or a tick: storage, and the LIA bits that it sets
+-- the state after a trigger, TRIG or a tick: storage, and the LIA bits that it sets
 unfoldable pub sampledBy : Sampled → State → State
 sampledBy p s =
-    record {
-      settings = s .settings;
-      moving = record { external = s .moving .external; storage = p .storage };
-      registers = withLia (s .registers) (p .bits);
-      enables = s .enables;
-      latest = s .latest;
-      unit = s .unit;
-    }
+    withRegisters (withLia (s .registers) (p .bits)) (withMoving (withStorage (p .storage) (s .moving)) s)
 
--- "they store the latest pair": a trace after a trigger or a tick, of which the latest pair holds the word w; the state is the one before
+-- "they store the latest pair": a trace after a trigger or a tick, where the latest pair has the word w for it; the
+-- state is the one before
 unfoldable pub storedIn : Sampled → State → ℕ → List ℕ → List ℕ
 storedIn p s w trace = cond (p .stores) (set trace (s .moving .storage .next) w) trace

@@ -1,6 +1,8 @@
-// The state of a module but for its queue: settings, frequencies, storage, status, the latest pair, and what is fixed at start.
+// The state of a module but for its queue: settings, frequencies, storage, status, the latest pair, and what is fixed
+// at start.
 ghost use mathlib.Core.Path.{_≡_};
-ghost use Rattle.state.specs.State.{startMoving, startState, detectionNow, crossedFrom, markedBy, samplingOf};
+ghost use Rattle.state.specs.State.{startMoving, startState, detectionNow, crossedFrom, markedBy};
+ghost use Rattle.state.specs.State.{samplingOf};
 ghost use Rattle.state.specs.Storing.{triggerOf, tickOf, sampledBy, storedIn};
 ghost use Rattle.state.specs.Allowed.{keepsUnit, keepsLatest, keepsParts, allowedState};
 use refusal::Refusal;
@@ -20,29 +22,43 @@ pub const SERIAL_MOST: u32 = 99999;
 
 // What is fixed at start.
 pub struct Unit {
+    // The serial number, at most SERIAL_MOST.
     pub serial: u32,
+    // The port, RS232 or GPIB.
     pub port: u8,
+    // The points that each trace has room for.
     pub capacity: u32,
 }
 
 // A point for each trace.
 pub struct Pair {
+    // The first trace's point.
     pub one: u32,
+    // The second trace's point.
     pub two: u32,
 }
 
-// What events change too: the last measured external frequency, in units of 0.1 mHz, and storage.
+// What events change too.
 pub struct Moving {
+    // The last measured external frequency, in units of 0.1 mHz.
     pub external: u32,
+    // Which points the traces hold, and whether more are stored.
     pub storage: Storage,
 }
 
+// The state. Only `State::start` and `Moving::start` list their fields: every other function changes a copy.
 pub struct State {
+    // The value of each setting.
     pub settings: Settings,
+    // What events change too.
     pub moving: Moving,
+    // The event registers.
     pub registers: Registers,
+    // The enable registers.
     pub enables: Enables,
+    // The latest pair of points, which a trigger or a tick stores.
     pub latest: Pair,
+    // What is fixed at start.
     pub unit: Unit,
 }
 
@@ -82,7 +98,8 @@ pub fn detection_now(s: State) -> u64
     settings::detection(s.settings, moving.external)
 }
 
-// The state once its detection frequency has changed from `old`: a crossing of 200 Hz acts on the time constant and on LIA.
+// The state once its detection frequency has changed from `old`: a crossing of 200 Hz acts on the time constant and
+// on LIA.
 pub fn crossed(s: State, old: u64) -> State
     ensures { λ r. ⌜ r ≡ crossedFrom old s ⌝ }
 {
@@ -115,7 +132,7 @@ pub fn sampling_of(s: Settings) -> Sampling
     }
 }
 
-// What a trigger does to storage, and what a tick does.
+// What a trigger does to storage.
 pub fn trigger_of(s: State) -> Sampled
     ensures { λ r. ⌜ r ≡ triggerOf s ⌝ }
 {
@@ -124,6 +141,7 @@ pub fn trigger_of(s: State) -> Sampled
     storage::triggered(moving.storage, unit.capacity, sampling_of(s.settings))
 }
 
+// What a tick does to storage.
 pub fn tick_of(s: State) -> Sampled
     ensures { λ r. ⌜ r ≡ tickOf s ⌝ }
 {
@@ -136,28 +154,20 @@ pub fn tick_of(s: State) -> Sampled
 pub fn sampled(s: State, p: Sampled) -> State
     ensures { λ r. ⌜ r ≡ sampledBy p s ⌝ }
 {
-    let settings = s.settings;
-    let moving = s.moving;
     let storage = p.storage;
-    let enables = s.enables;
-    let latest = s.latest;
-    let unit = s.unit;
-    State {
-        settings,
-        moving: Moving {
-            external: moving.external,
-            storage,
-        },
-        registers: status::with_lia(s.registers, p.bits),
-        enables,
-        latest,
-        unit,
-    }
+    let mut moving = s.moving;
+    moving.storage = storage;
+    let mut t = s;
+    t.moving = moving;
+    t.registers = status::with_lia(s.registers, p.bits);
+    t
 }
 
 // Stores the latest pair of the state in the slot that its next point goes to, where a trigger or a tick stores it.
 pub fn store(s: State, p: Sampled, one: &mut [u32], two: &mut [u32])
-    ensures { λ _. ⌜ (now (one .exit) ≡ storedIn p s (s .latest .one) (now (one .entry))) × (now (two .exit) ≡ storedIn p s (s .latest .two) (now (two .entry))) ⌝ }
+    ensures { λ _. ⌜
+        (now (one .exit) ≡ storedIn p s (s .latest .one) (now (one .entry)))
+        × (now (two .exit) ≡ storedIn p s (s .latest .two) (now (two .entry))) ⌝ }
 {
     let stores = p.stores;
     if stores {
@@ -168,12 +178,14 @@ pub fn store(s: State, p: Sampled, one: &mut [u32], two: &mut [u32])
     }
 }
 
-fn keeps_latest(p: Pair) -> bool
+// Whether a pair may be the latest one: both points are legal.
+pub fn keeps_latest(p: Pair) -> bool
     ensures { λ r. ⌜ r ≡ keepsLatest p ⌝ }
 {
     point::legal(p.one) & point::legal(p.two)
 }
 
+// Whether serial number, port and capacity are in their ranges.
 fn keeps_unit(u: Unit) -> bool
     ensures { λ r. ⌜ r ≡ keepsUnit u ⌝ }
 {

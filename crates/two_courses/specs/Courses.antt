@@ -13,7 +13,7 @@ use Rattle.command.specs.declared.Kind.{Kind}
 use Rattle.command.specs.declared.Kind.the-variants.{Set, Query, Act}
 use Rattle.command.specs.declared.Parsed.{Parsed}
 use Rattle.command.specs.declared.Parsed.the-variants as parsed
-use Rattle.state.specs.State.{samplingOf, startMoving}
+use Rattle.state.specs.State.{atFrequency, withStorage, samplingOf, startMoving}
 use Rattle.state.specs.declared.Moving.{Moving}
 use Rattle.allow.specs.Allows.{allowsOf}
 use Rattle.change.specs.Change.{isReset, settingsAfter, movingAfter}
@@ -28,10 +28,10 @@ resets (Act a) = isReset a
 -- before each line: the high course measures the highest frequency that is taken, the limit over the harmonic, and then has a trigger
 unfoldable pub measuredHigh : Settings → Moving → Moving
 measuredHigh s m =
-    cond (eqb (valueOf s fmod) 1) m (record { external = detectionLimit / valueOf s harm; storage = m .storage })
+    cond (eqb (valueOf s fmod) 1) m (atFrequency (detectionLimit / valueOf s harm) m)
 
 unfoldable pub triggeredHigh : ℕ → Settings → Moving → Moving
-triggeredHigh capacity s m = record { external = m .external; storage = triggeredOf (m .storage) capacity (samplingOf s) .storage }
+triggeredHigh capacity s m = withStorage (triggeredOf (m .storage) capacity (samplingOf s) .storage) m
 
 unfoldable pub gapOf : ℕ → Both → Both
 gapOf capacity b =

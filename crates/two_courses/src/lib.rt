@@ -47,11 +47,9 @@ fn measured_high(s: Settings, m: Moving) -> Moving
     if settings::value_of(s, settings::FMOD) == settings::INTERNAL {
         return m;
     }
-    let storage = m.storage;
-    Moving {
-        external: highest(settings::value_of(s, settings::HARM)),
-        storage,
-    }
+    let mut t = m;
+    t.external = highest(settings::value_of(s, settings::HARM));
+    t
 }
 
 fn triggered_high(capacity: u32, s: Settings, m: Moving) -> Moving
@@ -59,10 +57,9 @@ fn triggered_high(capacity: u32, s: Settings, m: Moving) -> Moving
 {
     let p = storage::triggered(m.storage, capacity, state::sampling_of(s));
     let storage = p.storage;
-    Moving {
-        external: m.external,
-        storage,
-    }
+    let mut t = m;
+    t.storage = storage;
+    t
 }
 
 // What can happen before a line.

@@ -4,9 +4,6 @@ use Rattle.change.specs.Change.{externalBy}
 use Rattle.change.proofs.external_by.Statement.{statement}
 use Rattle.change.proofs.external_by.Tie as tie
 
-is-reset-requires : tie.Need-is-reset-requires
-is-reset-requires c κs = search needs
-
 returns : tie.Need-returns
 unfolding externalBy
 returns c = search needs
@@ -16,4 +13,4 @@ unfolding externalBy
 returns-2 c = search needs
 
 pub external-by-spec : {M : Type 1} → statement M
-external-by-spec = tie.close (tie.spec is-reset-requires returns returns-2)
+external-by-spec = tie.close (tie.spec (λ c κs. search needs) returns returns-2)

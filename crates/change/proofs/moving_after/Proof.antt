@@ -4,15 +4,9 @@ use Rattle.change.specs.Change.{movingAfter}
 use Rattle.change.proofs.moving_after.Statement.{statement}
 use Rattle.change.proofs.moving_after.Tie as tie
 
-storage-after-requires : tie.Need-storage-after-requires
-storage-after-requires c κs = search needs
-
-external-after-requires : tie.Need-external-after-requires
-external-after-requires c κs = search needs
-
 returns : tie.Need-returns
 unfolding movingAfter
-returns c = rw (c .external-after .ensures, c .before .before .storage-after .ensures)
+returns c = rw (c .moving-by .ensures, c .before .storage-after .ensures)
 
 pub moving-after-spec : {M : Type 1} → statement M
-moving-after-spec = tie.close (tie.spec storage-after-requires external-after-requires returns)
+moving-after-spec = tie.close (tie.spec (λ c κs. search needs) (λ c κs. search needs) returns)

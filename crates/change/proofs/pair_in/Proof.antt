@@ -4,19 +4,10 @@ use Rattle.change.specs.Change.{withPair}
 use Rattle.change.proofs.pair_in.Statement.{statement}
 use Rattle.change.proofs.pair_in.Tie as tie
 
-with-value-requires : tie.Need-with-value-requires
-with-value-requires c κs = search needs
-
-behind-requires : tie.Need-behind-requires
-behind-requires c κs = search needs
-
-with-value-requires-2 : tie.Need-with-value-requires-2
-with-value-requires-2 c κs = search needs
-
 returns : tie.Need-returns
 unfolding withPair
 returns c = rw (c .with-value2 .ensures, c .before .behind .ensures, c .before .before .with-value .ensures)
 
 pub pair-in-spec : {M : Type 1} → statement M
 pair-in-spec =
-    tie.close (tie.spec with-value-requires behind-requires with-value-requires-2 returns)
+    tie.close (tie.spec (λ c κs. search needs) (λ c κs. search needs) (λ c κs. search needs) returns)

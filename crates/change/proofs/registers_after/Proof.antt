@@ -4,21 +4,6 @@ use Rattle.change.specs.Change.{registersAfter}
 use Rattle.change.proofs.registers_after.Statement.{statement}
 use Rattle.change.proofs.registers_after.Tie as tie
 
-enum-told : tie.Need-enum-told
-enum-told c = search needs
-
-enum-known-kind : tie.Need-enum-known-kind
-enum-known-kind c = search needs
-
-registers-asked-requires : tie.Need-registers-asked-requires
-registers-asked-requires c κs = search needs
-
-enum-known-kind-2 : tie.Need-enum-known-kind-2
-enum-known-kind-2 c = search needs
-
-registers-by-requires : tie.Need-registers-by-requires
-registers-by-requires c κs = search needs
-
 returns : tie.Need-returns
 unfolding registersAfter
 returns c = rw (c .enum-told .given .1)
@@ -35,11 +20,5 @@ pub registers-after-spec : {M : Type 1} → statement M
 registers-after-spec =
     tie.close
     (tie.spec
-    enum-told
-    enum-known-kind
-    registers-asked-requires
-    enum-known-kind-2
-    registers-by-requires
-    returns
-    returns-2
-    returns-3)
+    (λ c. search needs) (λ c. search needs) (λ c κs. search needs) (λ c. search needs) (λ c κs. search needs) returns
+    returns-2 returns-3)

@@ -5,12 +5,6 @@ use Rattle.change.specs.Change.{restoredBy}
 use Rattle.change.proofs.restored.Statement.{statement}
 use Rattle.change.proofs.restored.Tie as tie
 
-is-reset-requires : tie.Need-is-reset-requires
-is-reset-requires c κs = search needs
-
-start-requires : tie.Need-start-requires
-start-requires c κs = search needs
-
 returns : tie.Need-returns
 unfolding restoredBy
 returns c = simp (c .start .ensures, sym (c .before .before .is-reset .ensures) ∙ c .before .if1 .taken)
@@ -20,4 +14,4 @@ unfolding restoredBy
 returns-2 c = simp (sym (c .before .is-reset .ensures) ∙ c .if1 .left)
 
 pub restored-spec : {M : Type 1} → statement M
-restored-spec = tie.close (tie.spec is-reset-requires start-requires returns returns-2)
+restored-spec = tie.close (tie.spec (λ c κs. search needs) (λ c κs. search needs) returns returns-2)

@@ -4,24 +4,6 @@ use Rattle.change.specs.Change.{setIn}
 use Rattle.change.proofs.set_in.Statement.{statement}
 use Rattle.change.proofs.set_in.Tie as tie
 
-enum-known-a : tie.Need-enum-known-a
-enum-known-a c = search needs
-
-with-value-requires : tie.Need-with-value-requires
-with-value-requires c κs = search needs
-
-enum-known-a-2 : tie.Need-enum-known-a-2
-enum-known-a-2 c = search needs
-
-pair-in-requires : tie.Need-pair-in-requires
-pair-in-requires c κs = search needs
-
-enum-told : tie.Need-enum-told
-enum-told c = search needs
-
-enum-told-2 : tie.Need-enum-told-2
-enum-told-2 c = search needs
-
 returns : tie.Need-returns
 unfolding setIn
 returns c = rw (c .with-value .ensures, c .before .before .a .given .1)
@@ -42,13 +24,5 @@ pub set-in-spec : {M : Type 1} → statement M
 set-in-spec =
     tie.close
     (tie.spec
-    enum-known-a
-    with-value-requires
-    enum-known-a-2
-    pair-in-requires
-    enum-told
-    enum-told-2
-    returns
-    returns-2
-    returns-3
-    returns-4)
+    (λ c. search needs) (λ c κs. search needs) (λ c. search needs) (λ c κs. search needs) (λ c. search needs)
+    (λ c. search needs) returns returns-2 returns-3 returns-4)

@@ -4,27 +4,6 @@ use Rattle.change.specs.Change.{storageAfter}
 use Rattle.change.proofs.storage_after.Statement.{statement}
 use Rattle.change.proofs.storage_after.Tie as tie
 
-enum-told : tie.Need-enum-told
-enum-told c = search needs
-
-unstored-requires : tie.Need-unstored-requires
-unstored-requires c κs = search needs
-
-enum-told-2 : tie.Need-enum-told-2
-enum-told-2 c = search needs
-
-unstored-requires-2 : tie.Need-unstored-requires-2
-unstored-requires-2 c κs = search needs
-
-enum-known-kind : tie.Need-enum-known-kind
-enum-known-kind c = search needs
-
-sampling-of-requires : tie.Need-sampling-of-requires
-sampling-of-requires c κs = search needs
-
-storage-by-requires : tie.Need-storage-by-requires
-storage-by-requires c κs = search needs
-
 returns : tie.Need-returns
 unfolding storageAfter
 returns c = rw (c .unstored .ensures, c .before .enum-told .given .1)
@@ -41,13 +20,5 @@ pub storage-after-spec : {M : Type 1} → statement M
 storage-after-spec =
     tie.close
     (tie.spec
-    enum-told
-    unstored-requires
-    enum-told-2
-    unstored-requires-2
-    enum-known-kind
-    sampling-of-requires
-    storage-by-requires
-    returns
-    returns-2
-    returns-3)
+    (λ c. search needs) (λ c κs. search needs) (λ c. search needs) (λ c κs. search needs) (λ c. search needs)
+    (λ c κs. search needs) (λ c κs. search needs) returns returns-2 returns-3)

@@ -4,54 +4,6 @@ use Rattle.change.specs.Change.{storageBy}
 use Rattle.change.proofs.storage_by.Statement.{statement}
 use Rattle.change.proofs.storage_by.Tie as tie
 
-enum-told : tie.Need-enum-told
-enum-told c = search needs
-
-emptied-requires : tie.Need-emptied-requires
-emptied-requires c κs = search needs
-
-unstored-requires : tie.Need-unstored-requires
-unstored-requires c κs = search needs
-
-enum-told-2 : tie.Need-enum-told-2
-enum-told-2 c = search needs
-
-unstored-requires-2 : tie.Need-unstored-requires-2
-unstored-requires-2 c κs = search needs
-
-enum-told-3 : tie.Need-enum-told-3
-enum-told-3 c = search needs
-
-started-requires : tie.Need-started-requires
-started-requires c κs = search needs
-
-unstored-requires-3 : tie.Need-unstored-requires-3
-unstored-requires-3 c κs = search needs
-
-enum-told-4 : tie.Need-enum-told-4
-enum-told-4 c = search needs
-
-paused-requires : tie.Need-paused-requires
-paused-requires c κs = search needs
-
-unstored-requires-4 : tie.Need-unstored-requires-4
-unstored-requires-4 c κs = search needs
-
-enum-told-5 : tie.Need-enum-told-5
-enum-told-5 c = search needs
-
-emptied-requires-2 : tie.Need-emptied-requires-2
-emptied-requires-2 c κs = search needs
-
-unstored-requires-5 : tie.Need-unstored-requires-5
-unstored-requires-5 c κs = search needs
-
-enum-told-6 : tie.Need-enum-told-6
-enum-told-6 c = search needs
-
-triggered-requires : tie.Need-triggered-requires
-triggered-requires c κs = search needs
-
 returns : tie.Need-returns
 unfolding storageBy
 returns c = rw (c .unstored .ensures, c .before .emptied .ensures, c .before .before .enum-told .given .1)
@@ -80,25 +32,7 @@ pub storage-by-spec : {M : Type 1} → statement M
 storage-by-spec =
     tie.close
     (tie.spec
-    enum-told
-    emptied-requires
-    unstored-requires
-    enum-told-2
-    unstored-requires-2
-    enum-told-3
-    started-requires
-    unstored-requires-3
-    enum-told-4
-    paused-requires
-    unstored-requires-4
-    enum-told-5
-    emptied-requires-2
-    unstored-requires-5
-    enum-told-6
-    triggered-requires
-    returns
-    returns-2
-    returns-3
-    returns-4
-    returns-5
-    returns-6)
+    (λ c. search needs) (λ c κs. search needs) (λ c κs. search needs) (λ c. search needs) (λ c κs. search needs)
+    (λ c. search needs) (λ c κs. search needs) (λ c κs. search needs) (λ c. search needs) (λ c κs. search needs)
+    (λ c κs. search needs) (λ c. search needs) (λ c κs. search needs) (λ c κs. search needs) (λ c. search needs)
+    (λ c κs. search needs) returns returns-2 returns-3 returns-4 returns-5 returns-6)

@@ -1,20 +1,17 @@
 -- `event::new_pair` meets its contract. Assumes nothing.
-use Rattle.event.specs.Event.{withLatest, pairTaken}
+use Rattle.event.specs.Event.{pairTaken}
 use mathlib.Core.Path.{sym, _∙_}
 use borrow.Author.Needs.{needs}
 use Rattle.event.proofs.new_pair.Statement.{statement}
 use Rattle.event.proofs.new_pair.Tie as tie
 
-legal-pair-requires : tie.Need-legal-pair-requires
-legal-pair-requires c κs = search needs
-
 returns : tie.Need-returns
-unfolding pairTaken withLatest
-returns c = simp (sym (c .before .legal-pair .ensures) ∙ c .if1 .taken)
+unfolding pairTaken
+returns c = simp (sym (c .before .keeps-latest .ensures) ∙ c .if1 .taken)
 
 returns-2 : tie.Need-returns-2
 unfolding pairTaken
-returns-2 c = simp (sym (c .before .legal-pair .ensures) ∙ c .if1 .left)
+returns-2 c = simp (sym (c .before .keeps-latest .ensures) ∙ c .if1 .left)
 
 pub new-pair-spec : {M : Type 1} → statement M
-new-pair-spec = tie.close (tie.spec legal-pair-requires returns returns-2)
+new-pair-spec = tie.close (tie.spec (λ c κs. search needs) returns returns-2)

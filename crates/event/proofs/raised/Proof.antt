@@ -5,12 +5,6 @@ use borrow.Author.Needs.{needs}
 use Rattle.event.proofs.raised.Statement.{statement}
 use Rattle.event.proofs.raised.Tie as tie
 
-may-raise-requires : tie.Need-may-raise-requires
-may-raise-requires c κs = search needs
-
-with-raised-requires : tie.Need-with-raised-requires
-with-raised-requires c κs = search needs
-
 returns : tie.Need-returns
 unfolding bitsRaised
 returns c = simp (c .with-raised .ensures, sym (c .before .before .may-raise .ensures) ∙ c .before .if1 .taken)
@@ -20,4 +14,4 @@ unfolding bitsRaised
 returns-2 c = simp (sym (c .before .may-raise .ensures) ∙ c .if1 .left)
 
 pub raised-spec : {M : Type 1} → statement M
-raised-spec = tie.close (tie.spec may-raise-requires with-raised-requires returns returns-2)
+raised-spec = tie.close (tie.spec (λ c κs. search needs) (λ c κs. search needs) returns returns-2)

@@ -4,6 +4,7 @@ use mathlib.Core.Path.{sym, ap, _∙_}
 use native.Mathlib.Omega.{arith}
 use lib.ListN.{length}
 use borrow.Author.Needs.{needs}
+use Rattle.change.specs.Change.{stateAfter}
 use Rattle.line.proofs.Effects.{written-fits, done, no-room, not-allowed}
 use Rattle.line.proofs.perform.Statement.{statement}
 use Rattle.line.proofs.perform.Tie as tie
@@ -33,6 +34,7 @@ same-length-3 : tie.Need-same-length-3
 same-length-3 c = c .before .before .before .before .before .before .before .before .before .before .before .before .before .send-reply .kept .1 .1 .1 .1 .1 .0
 
 returns : tie.Need-returns
+unfolding stateAfter
 returns c = let k = c .before .before .before .before .before .before .before .before .before .before .before .before .before .before .before .before .before .before .before .before .before .before .before .args in let a = c .before .before .before .before .before .before .before .before .before .before .before .before .before .before .before .before .before .before .allows in let s = c .before .before .before .before .before .before .before .before .before .before .before .before .before .send-reply in let t = c .before .before .before .before .before .store in
     let f = sym (ap (λ x. x .fits) (s .ensures .0)) ∙ c .before .before .before .before .before .before .before .before .before .before .if2 .taken in
     let w : s .result .written ≤ length (s .last .1 .1 .1 .1 .1 .0) = rw (ap (λ x. x .written) (s .ensures .0), s .kept .1 .1 .1 .1 .1 .0) (written-fits _ _) in (

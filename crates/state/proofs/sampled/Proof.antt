@@ -4,12 +4,9 @@ use Rattle.state.specs.Storing.{sampledBy}
 use Rattle.state.proofs.sampled.Statement.{statement}
 use Rattle.state.proofs.sampled.Tie as tie
 
-with-lia-requires : tie.Need-with-lia-requires
-with-lia-requires c κs = search needs
-
 returns : tie.Need-returns
 unfolding sampledBy
 returns c = rw (c .with-lia .ensures)
 
 pub sampled-spec : {M : Type 1} → statement M
-sampled-spec = tie.close (tie.spec with-lia-requires returns)
+sampled-spec = tie.close (tie.spec (λ c κs. search needs) returns)

@@ -5,22 +5,15 @@ use Rattle.state.specs.Storing.{storedIn}
 use Rattle.state.proofs.store.Statement.{statement}
 use Rattle.state.proofs.store.Tie as tie
 
-put-pair-requires : tie.Need-put-pair-requires
-put-pair-requires c κs = search needs
-
-same-length : tie.Need-same-length
-same-length c = search needs
-
-same-length-2 : tie.Need-same-length-2
-same-length-2 c = search needs
-
 returns : tie.Need-returns
 unfolding storedIn
-returns c = rw (c .before .before .before .before .before .before .before .before .before .before .if1 .taken) (c .before .before .before .before .put-pair .ensures)
+returns c =
+    let put = c .before .before .before .before in
+    rw (put .before .before .before .before .before .before .if1 .taken) (put .put-pair .ensures)
 
 returns-2 : tie.Need-returns-2
 unfolding storedIn
 returns-2 c = rw (c .if1 .left) (refl, refl)
 
 pub store-spec : {M : Type 1} → statement M
-store-spec = tie.close (tie.spec put-pair-requires same-length same-length-2 returns returns-2)
+store-spec = tie.close (tie.spec (λ c κs. search needs) (λ c. search needs) (λ c. search needs) returns returns-2)

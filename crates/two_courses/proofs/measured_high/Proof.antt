@@ -21,7 +21,9 @@ highest-requires c κs = search needs
 
 returns-2 : tie.Need-returns-2
 unfolding measuredHigh
-returns-2 c = rw (c .highest .ensures, c .before .value-of2 .ensures, sym (c .before .before .before .before .value-of .ensures), ne-eqb _ _ (c .before .before .before .if1 .left))
+returns-2 c =
+    let tested = c .before .before in
+    rw (c .highest .ensures, c .before .value-of2 .ensures, sym (tested .before .value-of .ensures), ne-eqb _ _ (tested .if1 .left))
 
 pub measured-high-spec : {M : Type 1} → statement M
 measured-high-spec =

@@ -1,17 +1,10 @@
 -- `state::Moving::start` meets its contract. Assumes nothing.
 use borrow.Author.Needs.{needs}
-use Rattle.state.specs.State.{startState, detectionNow, crossedFrom, markedBy, samplingOf}
-use Rattle.state.specs.Storing.{triggerOf, tickOf, sampledBy, storedIn}
-use Rattle.state.specs.Allowed.{keepsUnit, keepsLatest, keepsParts, allowedState}
 use Rattle.state.proofs.Moving.start.Statement.{statement}
 use Rattle.state.proofs.Moving.start.Tie as tie
 
-emptied-requires : tie.Need-emptied-requires
-emptied-requires c κs = search needs
-
 returns : tie.Need-returns
-unfolding startState detectionNow crossedFrom markedBy samplingOf triggerOf tickOf sampledBy storedIn keepsUnit keepsLatest keepsParts allowedState
 returns c = rw (c .emptied .ensures)
 
 pub start-spec : {M : Type 1} → statement M
-start-spec = tie.close (tie.spec emptied-requires returns)
+start-spec = tie.close (tie.spec (λ c κs. search needs) returns)

@@ -1,0 +1,2 @@
+-- Laws on what a command needs of the state.
+pub mod Limit

@@ -1,0 +1,2 @@
+-- Laws on what a command changes.
+pub mod After

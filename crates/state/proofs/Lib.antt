@@ -1,0 +1,2 @@
+-- Laws on the state.
+pub mod Sound
