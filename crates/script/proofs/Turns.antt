@@ -15,15 +15,16 @@ use Rattle.clean.specs.Texts.{semicolon}
 use Rattle.refusal.specs.declared.Answer.{Answer}
 use Rattle.refusal.specs.declared.Answer.the-variants as answer
 use Rattle.two_courses.specs.Courses.{textRefusal, textAfter}
+use Rattle.two_courses.specs.declared.Model.{Model}
 use Rattle.two_courses.specs.declared.Both.{Both}
 use Rattle.script.specs.Check.{answerAt, textsAnswer, textsAfter}
 use Rattle.script.specs.Parts.{Sweeps}
 
 -- what is left of the line answers from here what the whole answers from the start
-pub record OnWay (capacity : ℕ) (text : List ℕ) (b₀ : Both) (b : Both) (place a : ℕ) : Type 0 where
+pub record OnWay (model : Model) (text : List ℕ) (b₀ : Both) (b : Both) (place a : ℕ) : Type 0 where
   pub inside : a ≤ length text
-  pub told : textsAnswer capacity 1 (parts semicolon text) b₀ ≡ textsAnswer capacity place (parts semicolon (drop a text)) b
-  pub past : textsAfter capacity (parts semicolon text) b₀ ≡ textsAfter capacity (parts semicolon (drop a text)) b
+  pub told : textsAnswer model 1 (parts semicolon text) b₀ ≡ textsAnswer model place (parts semicolon (drop a text)) b
+  pub past : textsAfter model (parts semicolon text) b₀ ≡ textsAfter model (parts semicolon (drop a text)) b
   pub counted : place ≤ a + 1
 
 -- an answer that is a refusal is not a pass
@@ -34,33 +35,33 @@ mark (answer.Refused r place) = 1
 apart : {A : Type 0} (r : Refusal) (place : ℕ) → answer.Refused r place ≡ answer.Passed → A
 apart r place z = let n : _≡_ {A = ℕ} 1 0 = ap mark z in absurd (omega arith)
 
-module _ {capacity : ℕ} {text : List ℕ} {b₀ b : Both} {place a : ℕ} (v : OnWay capacity text b₀ b place a)
+module _ {model : Model} {text : List ℕ} {b₀ b : Both} {place a : ℕ} (v : OnWay model text b₀ b place a)
     (e : ℕ) (at-e : e ≡ a + span semicolon (drop a text)) (p : Parsed) (read : p ≡ parsedOf (take (e - a) (drop a text))) where
   same-text : p ≡ parsedOf (take (span semicolon (drop a text)) (drop a text))
   same-text =
       let k : e - a ≡ span semicolon (drop a text) = omega arith in
       read ∙ ap (λ n. parsedOf (take n (drop a text))) k
 
-  answered : textsAnswer capacity 1 (parts semicolon text) b₀
-      ≡ answerAt (textRefusal p b) place (textsAnswer capacity (place + 1) (drop 1 (parts semicolon (drop a text))) (textAfter capacity p b))
+  answered : textsAnswer model 1 (parts semicolon text) b₀
+      ≡ answerAt (textRefusal p b) place (textsAnswer model (place + 1) (drop 1 (parts semicolon (drop a text))) (textAfter model p b))
   unfolding textsAnswer
-  answered = v .told ∙ ap (λ ts. textsAnswer capacity place ts b) (parts-first semicolon (drop a text))
-      ∙ ap (λ q. answerAt (textRefusal q b) place (textsAnswer capacity (place + 1) (drop 1 (parts semicolon (drop a text))) (textAfter capacity q b))) (sym same-text)
+  answered = v .told ∙ ap (λ ts. textsAnswer model place ts b) (parts-first semicolon (drop a text))
+      ∙ ap (λ q. answerAt (textRefusal q b) place (textsAnswer model (place + 1) (drop 1 (parts semicolon (drop a text))) (textAfter model q b))) (sym same-text)
 
-  went : textsAfter capacity (parts semicolon text) b₀ ≡ textsAfter capacity (drop 1 (parts semicolon (drop a text))) (textAfter capacity p b)
+  went : textsAfter model (parts semicolon text) b₀ ≡ textsAfter model (drop 1 (parts semicolon (drop a text))) (textAfter model p b)
   unfolding textsAfter
   went =
       v .past
-      ∙ ap (λ ts. textsAfter capacity ts b) (parts-first semicolon (drop a text))
-      ∙ ap (λ q. textsAfter capacity (drop 1 (parts semicolon (drop a text))) (textAfter capacity q b)) (sym same-text)
+      ∙ ap (λ ts. textsAfter model ts b) (parts-first semicolon (drop a text))
+      ∙ ap (λ q. textsAfter model (drop 1 (parts semicolon (drop a text))) (textAfter model q b)) (sym same-text)
 
   pub refused : (r : Refusal) (last : Both) → textRefusal p b ≡ outcome.Refused r →
-      Sweeps capacity (parts semicolon text) b₀ (record { both = last; answer = answer.Refused r place })
+      Sweeps model (parts semicolon text) b₀ (record { both = last; answer = answer.Refused r place })
   unfolding answerAt
   refused r last f = record { told = sym (answered ∙ rw f); past = λ z. apart r place z }
 
   pub ended : textRefusal p b ≡ outcome.Done → e ≡ length text →
-      Sweeps capacity (parts semicolon text) b₀ (record { both = textAfter capacity p b; answer = answer.Passed })
+      Sweeps model (parts semicolon text) b₀ (record { both = textAfter model p b; answer = answer.Passed })
   unfolding answerAt textsAnswer textsAfter
   ended f l =
       let i = v .inside in
@@ -68,7 +69,7 @@ module _ {capacity : ℕ} {text : List ℕ} {b₀ b : Both} {place a : ℕ} (v :
       let n = parts-last semicolon (drop a text) h in
       record { told = sym (answered ∙ rw (f, n)); past = λ z. sym (went ∙ rw n) }
 
-  pub again : textRefusal p b ≡ outcome.Done → e < length text → OnWay capacity text b₀ (textAfter capacity p b) (place + 1) (e + 1)
+  pub again : textRefusal p b ≡ outcome.Done → e < length text → OnWay model text b₀ (textAfter model p b) (place + 1) (e + 1)
   unfolding answerAt
   again f l =
       let i = v .inside in
