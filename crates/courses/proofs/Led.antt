@@ -1,7 +1,7 @@
--- How a script begins, by what the check finds.
-use Prim.Native.Nat.{ℕ, zero, suc, _+_, _≤_, _<_}
+-- How a script begins, by what the check finds: with *RST, with another command, or with none.
+use Prim.Native.Nat.{ℕ, suc, _+_, _≤_}
 use native.Mathlib.Omega.{arith}
-use mathlib.Core.Bool.{Bool, true, false, _||_}
+use mathlib.Core.Bool.{Bool, true, false, cond, _||_}
 use mathlib.Core.Path.{_≡_, refl, sym, ap, _∙_}
 use mathlib.Core.Logic.{_≢_}
 use mathlib.Core.List.{List, [], _∷_}
@@ -12,16 +12,17 @@ use Rattle.command.specs.Parsed.{parsedOf}
 use Rattle.command.specs.declared.Parsed.{Parsed}
 use Rattle.command.specs.declared.Parsed.the-variants as parsed
 use Rattle.clean.specs.Texts.{textsOf}
+use Rattle.refusal.specs.declared.Answer.{Answer}
 use Rattle.refusal.specs.declared.Answer.the-variants.{Passed, Refused}
 use Rattle.two_courses.specs.declared.Model.{Model}
 use Rattle.two_courses.specs.Courses.{resets, gapOf, kindRefusal, textRefusal, kindAfter, textAfter}
 use Rattle.two_courses.specs.declared.Both.{Both}
-use Rattle.script.specs.Check.{textsAnswer, textsAfter, lineAnswer, lineAfter, fine, noCommand, stop, found}
-use Rattle.courses.specs.Demand3.{Lead, none, first, leadBy, leadIn, orElse, leadFrom, isReset, begins}
-use Rattle.courses.proofs.Found.{never, not-passed, not-done, found-here, found-later, end-stop}
-use Rattle.courses.proofs.Found.{answer-passed, answer-split}
+use Rattle.script.specs.Check.{textsAnswer, textsAfter, lineAnswer, lineAfter}
+use Rattle.script.specs.Check.{Found, fine, noCommand, stop, later, foundBy, found}
+use Rattle.courses.specs.Demand3.{Lead, none, first, leadBy, leadIn, orElse, leadFrom, isReset}
+use Rattle.courses.proofs.Found.{never, not-passed, not-done, answer-passed, answer-split}
 use Rattle.courses.proofs.Witness.{refused-same}
-use Rattle.courses.proofs.Long.{numberOf, begun-texts, begun-number, gap-begun, passed-short, refused-short}
+use Rattle.courses.proofs.Long.{numberOf, begun-texts, begun-number, gap-begun, passed-short, refused-split}
 
 -- ---- one command before *RST: it is empty, *RST, or another
 
@@ -105,9 +106,9 @@ module _ (model : Model) (line : ℕ) (Goal : Type 0) where
       (λ u v. not-done NoReset (sym (s .outcome) ∙ u))
       (λ u v. f x (refused-same _ _ (sym u ∙ s .outcome)) (s .lead ∙ ap (λ (n : ℕ). first line n x) v) (s .reset)))
 
--- ---- a script
+-- ---- the lines of a script
 
-pub seven-eight : NoReset ≢ LongScriptLine
+seven-eight : NoReset ≢ LongScriptLine
 seven-eight z = let y : _≡_ {A = ℕ} 7 8 = ap numberOf z in absurd (omega arith)
 
 lead-line : (line place : ℕ) (ts : List (List ℕ)) (m q : ℕ) (c : Parsed) → leadIn line place ts ≡ first m q c → line ≡ m
@@ -140,28 +141,56 @@ take-line : (line : ℕ) (l : List ℕ) (ls : List (List ℕ)) (n q : ℕ) (c : 
 unfolding leadFrom orElse
 take-line line l ls n q c e = rw e refl
 
-begins-first : (x : Lead) (n q : ℕ) (c : Parsed) → x ≡ first n q c → isReset c ≡ true → begins x ≡ true
-unfolding begins
-begins-first x n q c e f = rw e f
+-- ---- after *RST
+
+-- neither 7 nor a script without a command
+abbrev pub AfterReset : Found → Type 0
+AfterReset fine = Unit {0}
+AfterReset noCommand = ⊥
+AfterReset (stop i p r) = r ≢ NoReset
+
+begun-later : (v : Found) → AfterReset v → AfterReset (later v)
+begun-later fine k = tt
+begun-later noCommand k = absurd k
+begun-later (stop i p r) k = k
+
+small-number : (r : Refusal) → numberOf r ≤ 3 → r ≢ NoReset
+small-number r h e = let y : numberOf r ≡ 7 = ap numberOf e in absurd (omega arith)
+
+begun-found : (model : Model) (ls : List (List ℕ)) (b : Both) → b .begun ≡ true → AfterReset (found model ls b)
+unfolding found
+begun-found model [] b k = rw k tt
+begun-found model (l ∷ ls) b k = by (lineAnswer model l b) refl (begun-found model ls (lineAfter model l b) after) where
+  after : lineAfter model l b .begun ≡ true
+  after = begun-texts model (textsOf l) (gapOf model b) (gap-begun model b ∙ k)
+
+  by : (a : Answer) → lineAnswer model l b ≡ a → AfterReset (found model ls (lineAfter model l b))
+      → AfterReset (foundBy a (found model ls (lineAfter model l b)))
+  by Passed e n = unfold foundBy in begun-later (found model ls (lineAfter model l b)) n
+  by (Refused r p) e n =
+      unfold foundBy in
+      refused-split model l b r p (r ≢ NoReset) e (λ t z q y. seven-eight (sym y ∙ z))
+      (λ t f h. small-number r (begun-number model 1 (textsOf l) (gapOf model b) r p (gap-begun model b ∙ k) f))
+
+-- ---- how it begins
+
+-- Seen from a line number on: with *RST; with another command, where the check stops by 7; with none; or the check stops
+-- at an over-long line that no command stands before.
+pub data Begins (line : ℕ) (v : Found) (lead : Lead) : Type 0 where
+  withReset : (n q : ℕ) (c : Parsed) → lead ≡ first n q c → isReset c ≡ true → AfterReset v → Begins line v lead
+  withOther : (i p n : ℕ) (c : Parsed) → v ≡ stop i p NoReset → n ≡ line + i → lead ≡ first n p c → isReset c ≡ false
+      → Begins line v lead
+  withNothing : v ≡ noCommand → lead ≡ none → Begins line v lead
+  withLong : (i : ℕ) → v ≡ stop i 0 LongScriptLine → ((n q : ℕ) (c : Parsed) → lead ≡ first n q c → line + i ≤ n)
+      → Begins line v lead
+
+begins-later : (line : ℕ) (v : Found) (lead : Lead) → Begins (line + 1) v lead → Begins line (later v) lead
+begins-later line v lead (withReset n q c u w x) = withReset n q c u w (begun-later v x)
+begins-later line v lead (withOther i p n c e z u w) = withOther (suc i) p n c (ap later e) (omega arith) u w
+begins-later line v lead (withNothing e u) = withNothing (ap later e) u
+begins-later line v lead (withLong i e f) = withLong (suc i) (ap later e) (λ n q c u. omega (arith, f n q c u))
 
 module _ (model : Model) where
-  -- after *RST neither 7 nor a script with no command is found
-  begun-none : (ls : List (List ℕ)) (b : Both) → b .begun ≡ true → found model ls b ≡ noCommand → ⊥
-  begun-none [] b k e = let z : fine ≡ noCommand = unfold found in rw k at e in never (cc)
-  begun-none (l ∷ ls) b k e =
-      begun-none ls (lineAfter model l b) (begun-texts model (textsOf l) (gapOf model b) (gap-begun model b ∙ k))
-      (found-later model l ls b noCommand e .1)
-
-  begun-seven : (ls : List (List ℕ)) (b : Both) (i p : ℕ) → b .begun ≡ true → found model ls b ≡ stop i p NoReset → ⊥
-  begun-seven [] b i p k e = end-stop model b i p NoReset e
-  begun-seven (l ∷ ls) b zero p k e =
-      let f = refused-short model l b NoReset p seven-eight (found-here model l ls b p NoReset e) .1 in
-      let h : 7 ≤ 3 = begun-number model 1 (textsOf l) (gapOf model b) NoReset p (gap-begun model b ∙ k) f in
-      omega arith
-  begun-seven (l ∷ ls) b (suc i) p k e =
-      begun-seven ls (lineAfter model l b) i p (begun-texts model (textsOf l) (gapOf model b) (gap-begun model b ∙ k))
-      (found-later model l ls b (stop i p NoReset) e .1)
-
   -- a line before *RST that passes
   line-led : (line : ℕ) (l : List ℕ) (ls : List (List ℕ)) (b : Both) (Goal : Type 0) → b .begun ≡ false → lineAnswer model l b ≡ Passed
       → (leadFrom line (l ∷ ls) ≡ leadFrom (line + 1) ls → lineAfter model l b .begun ≡ false → Goal)
@@ -171,64 +200,29 @@ module _ (model : Model) where
       (λ u v. f (skip-line line l ls u) v)
       (λ q c u v w. g q c (take-line line l ls line q c u) v w)
 
-  pub led-fine : (line : ℕ) (ls : List (List ℕ)) (b : Both) → b .begun ≡ false → found model ls b ≡ fine → begins (leadFrom line ls) ≡ true
-  led-fine line [] b k e = let z : noCommand ≡ fine = unfold found in rw k at e in never (cc)
-  led-fine line (l ∷ ls) b k e =
-      let q = found-later model l ls b fine e in
-      line-led line l ls b (begins (leadFrom line (l ∷ ls)) ≡ true) k (q .0)
-      (λ u v. rw u (led-fine (line + 1) ls (lineAfter model l b) v (q .1)))
-      (λ n c u v w. begins-first _ line n c u v)
-
-  pub led-none : (line : ℕ) (ls : List (List ℕ)) (b : Both) → b .begun ≡ false → found model ls b ≡ noCommand → leadFrom line ls ≡ none
-  led-none line [] b k e = unfold leadFrom in refl
-  led-none line (l ∷ ls) b k e =
-      let q = found-later model l ls b noCommand e in
-      line-led line l ls b (leadFrom line (l ∷ ls) ≡ none) k (q .0)
-      (λ u v. u ∙ led-none (line + 1) ls (lineAfter model l b) v (q .1))
-      (λ n c u v w. absurd (begun-none ls (lineAfter model l b) w (q .1)))
-
-  pub led-seven : (line : ℕ) (ls : List (List ℕ)) (b : Both) (i p : ℕ) → b .begun ≡ false → found model ls b ≡ stop i p NoReset
-      → (c : Parsed) × (leadFrom line ls ≡ first (line + i) p c) × (isReset c ≡ false)
-  led-seven line [] b i p k e = end-stop model b i p NoReset e
-  led-seven line (l ∷ ls) b zero p k e =
-      let f = refused-short model l b NoReset p seven-eight (found-here model l ls b p NoReset e) .1 in
-      early-refused model line ((c : Parsed) × (leadFrom line (l ∷ ls) ≡ first (line + 0) p c) × (isReset c ≡ false)) 1 (textsOf l) (gapOf model b)
-      NoReset p (gap-begun model b ∙ k) f
-      (λ c u v w. let z : line ≡ line + 0 = omega arith in (c, take-line line l ls line p c v ∙ ap (λ (n : ℕ). first n p c) z, w))
-      (λ q c u v w. let h : 7 ≤ 3 = w in absurd (omega arith))
-  led-seven line (l ∷ ls) b (suc i) p k e =
-      let q = found-later model l ls b (stop i p NoReset) e in
-      line-led line l ls b ((c : Parsed) × (leadFrom line (l ∷ ls) ≡ first (line + suc i) p c) × (isReset c ≡ false)) k (q .0)
-      (λ u v.
-      let n = led-seven (line + 1) ls (lineAfter model l b) i p v (q .1) in
-      let z : line + 1 + i ≡ line + suc i = omega arith in
-      (n .0, u ∙ (n .1 ∙ ap (λ (m : ℕ). first m p (n .0)) z), n .2))
-      (λ n c u v w. absurd (begun-seven ls (lineAfter model l b) i p w (q .1)))
-
-  pub led-other : (line : ℕ) (ls : List (List ℕ)) (b : Both) (i p : ℕ) (r : Refusal) → b .begun ≡ false → found model ls b ≡ stop i p r
-      → r ≢ NoReset → r ≢ LongScriptLine → begins (leadFrom line ls) ≡ true
-  led-other line [] b i p r k e x y = end-stop model b i p r e
-  led-other line (l ∷ ls) b zero p r k e x y =
-      let f = refused-short model l b r p y (found-here model l ls b p r e) .1 in
-      early-refused model line (begins (leadFrom line (l ∷ ls)) ≡ true) 1 (textsOf l) (gapOf model b) r p (gap-begun model b ∙ k) f
-      (λ c u v w. absurd (x u))
-      (λ q c u v w. begins-first _ line q c (take-line line l ls line q c u) v)
-  led-other line (l ∷ ls) b (suc i) p r k e x y =
-      let q = found-later model l ls b (stop i p r) e in
-      line-led line l ls b (begins (leadFrom line (l ∷ ls)) ≡ true) k (q .0)
-      (λ u v. rw u (led-other (line + 1) ls (lineAfter model l b) i p r v (q .1) x y))
-      (λ n c u v w. begins-first _ line n c u v)
-
-  -- a first command on a line before the one where the check stops is *RST
-  pub led-before : (line : ℕ) (ls : List (List ℕ)) (b : Both) (i p : ℕ) (r : Refusal) → b .begun ≡ false → found model ls b ≡ stop i p r
-      → (m q : ℕ) (c : Parsed) → leadFrom line ls ≡ first m q c → m < line + i → isReset c ≡ true
-  led-before line [] b i p r k e m q c f h = end-stop model b i p r e
-  led-before line (l ∷ ls) b zero p r k e m q c f h = absurd (omega (arith, lead-from line (l ∷ ls) m q c f))
-  led-before line (l ∷ ls) b (suc i) p r k e m q c f h =
-      let y = found-later model l ls b (stop i p r) e in
-      line-led line l ls b (isReset c ≡ true) k (y .0)
-      (λ u v. led-before (line + 1) ls (lineAfter model l b) i p r v (y .1) m q c (sym u ∙ f) (omega arith))
-      (λ n d u v w.
-      let z : first line n d ≡ first m q c = sym u ∙ f in
-      let x : d ≡ c = cc in
-      rw (sym x) v)
+  pub begins-found : (line : ℕ) (ls : List (List ℕ)) (b : Both) → b .begun ≡ false
+      → Begins line (found model ls b) (leadFrom line ls)
+  unfolding found
+  begins-found line [] b k = rw k (withNothing refl (unfold leadFrom in refl))
+  begins-found line (l ∷ ls) b k =
+      by (lineAnswer model l b) refl (begins-found (line + 1) ls (lineAfter model l b))
+    where
+      by : (a : Answer) → lineAnswer model l b ≡ a
+          → (lineAfter model l b .begun ≡ false → Begins (line + 1) (found model ls (lineAfter model l b)) (leadFrom (line + 1) ls))
+          → Begins line (foundBy a (found model ls (lineAfter model l b))) (leadFrom line (l ∷ ls))
+      by Passed e next =
+          unfold foundBy in
+          line-led line l ls b _ k e
+          (λ u v. rw u (begins-later line (found model ls (lineAfter model l b)) (leadFrom (line + 1) ls) (next v)))
+          (λ q c u v w.
+          withReset line q c u v
+          (begun-later (found model ls (lineAfter model l b)) (begun-found model ls (lineAfter model l b) w)))
+      by (Refused r p) e next =
+          unfold foundBy in
+          refused-split model l b r p _ e
+          (λ t z y.
+          withLong 0 (rw (z, y) refl) (λ n q c u. omega (arith, lead-from line (l ∷ ls) n q c u)))
+          (λ t f h.
+          early-refused model line _ 1 (textsOf l) (gapOf model b) r p (gap-begun model b ∙ k) f
+          (λ c z u v. withOther 0 p line c (rw z refl) (omega arith) (take-line line l ls line p c u) v)
+          (λ q c u v w. withReset line q c (take-line line l ls line q c u) v (small-number r w)))

@@ -137,17 +137,9 @@ short-passes model [] b n h = refl
 short-passes model (l ∷ ls) b zero h = passed-short model l b (passes-here model l ls b zero h) .0
 short-passes model (l ∷ ls) b (suc n) h = short-passes model ls (lineAfter model l b) n (passes-next model l ls b n h)
 
-module _ (model : Model) (ls : List (List ℕ)) (b : Both) (i p : ℕ) where
-  pub short-here : (r : Refusal) → found model ls b ≡ stop i p r → r ≢ LongScriptLine → tooLong (getD ls i []) ≡ false
-  short-here r e n =
-      refused-short model (getD ls i []) (bothAt model ls b i) r p n (stop-answer model ls b i p r e) .0
-
-  pub long-here : found model ls b ≡ stop i p LongScriptLine → (p ≡ 0) × (tooLong (getD ls i []) ≡ true)
-  long-here e =
-      refused-split model (getD ls i []) (bothAt model ls b i) LongScriptLine p _
-      (stop-answer model ls b i p LongScriptLine e) (λ t z q. (q, t)) (λ t f h. absurd (omega arith))
-
-  pub stop-number : (r : Refusal) → found model ls b ≡ stop i p r → numberOf r ≤ 8
-  stop-number r e =
-      refused-split model (getD ls i []) (bothAt model ls b i) r p _ (stop-answer model ls b i p r e)
-      (λ t z q. rw z (omega arith)) (λ t f h. omega arith)
+-- the line where the check stops is over-long, and it says 8 at place 0; or it is not, and it says another number
+pub stop-split : (model : Model) (ls : List (List ℕ)) (b : Both) (i p : ℕ) (r : Refusal) (Goal : Type 0)
+    → found model ls b ≡ stop i p r → (tooLong (getD ls i []) ≡ true → r ≡ LongScriptLine → p ≡ 0 → Goal)
+    → (tooLong (getD ls i []) ≡ false → numberOf r ≤ 7 → Goal) → Goal
+stop-split model ls b i p r Goal e f g =
+    refused-split model (getD ls i []) (bothAt model ls b i) r p Goal (stop-answer model ls b i p r e) f (λ t x h. g t h)

@@ -5,11 +5,11 @@ use mathlib.Core.Bool.{Bool, true, false, false≢true}
 use mathlib.Core.Path.{_≡_, refl, sym, ap, _∙_}
 use mathlib.Core.Logic.{_≢_, _↔_}
 use mathlib.Core.List.{List, [], _∷_}
-use lib.Dec.{leb, ltb}
+use lib.Dec.{ltb}
 use lib.ListN.{length, getD, length-replicate}
-use borrow.Author.Tests.{eq-eqb, ltb-true, ltb-false, leb-true, leb-false}
+use borrow.Author.Tests.{eq-eqb, ltb-true, ltb-false}
 use Rattle.refusal.specs.declared.Refusal.{Refusal}
-use Rattle.refusal.specs.declared.Refusal.the-variants.{Malformed, OutOfRange, NotAllowed, NoRoom, LongLine, BadEvent, NoReset, LongScriptLine, BadTraces, BadStart, BadState}
+use Rattle.refusal.specs.declared.Refusal.the-variants.{LongLine, NoReset, LongScriptLine, BadTraces}
 use Rattle.refusal.specs.declared.Outcome.the-variants as outcome
 use Rattle.command.specs.declared.Parsed.{Parsed}
 use Rattle.state.specs.State.{startState}
@@ -33,8 +33,8 @@ use Rattle.courses.proofs.Witness.{Side, low, high, At}
 use Rattle.courses.proofs.Fresh.{fits-start, unfit-start, start-fits, start-unfit, fresh-core, fresh-fits}
 use Rattle.courses.proofs.Sized.{Sized}
 use Rattle.courses.proofs.Reached.{gapsFor, gaps-roomy, gaps-fit, reached}
-use Rattle.courses.proofs.Long.{numberOf, short-passes, short-here, long-here, stop-number}
-use Rattle.courses.proofs.Led.{seven-eight, led-fine, led-none, led-seven, led-other, led-before}
+use Rattle.courses.proofs.Long.{numberOf, short-passes, stop-split}
+use Rattle.courses.proofs.Led.{Begins, withReset, withOther, withNothing, withLong, begins-found}
 
 -- ---- any course, where the check begins
 
@@ -98,7 +98,8 @@ bool-split : (t : Bool) (Goal : Type 0) → (t ≡ true → Goal) → (t ≡ fal
 bool-split true G f g = f refl
 bool-split false G f g = g refl
 
-found-split : (v : Found) (Goal : Type 0) → (v ≡ fine → Goal) → (v ≡ noCommand → Goal) → ((i p : ℕ) (r : Refusal) → v ≡ stop i p r → Goal) → Goal
+found-split : (v : Found) (Goal : Type 0) → (v ≡ fine → Goal) → (v ≡ noCommand → Goal)
+    → ((i p : ℕ) (r : Refusal) → v ≡ stop i p r → Goal) → Goal
 found-split fine G f g h = f refl
 found-split noCommand G f g h = g refl
 found-split (stop i p r) G f g h = h i p r refl
@@ -106,19 +107,8 @@ found-split (stop i p r) G f g h = h i p r refl
 apart : (r s : Refusal) → (numberOf r ≡ numberOf s → ⊥) → r ≢ s
 apart r s n e = n (ap numberOf e)
 
--- 7, 8, or another
-refusal-split : (r : Refusal) (Goal : Type 0) → (r ≡ NoReset → Goal) → (r ≡ LongScriptLine → Goal) → (r ≢ NoReset → r ≢ LongScriptLine → Goal) → Goal
-refusal-split Malformed G f g h = h (apart Malformed NoReset (λ e. omega arith)) (apart Malformed LongScriptLine (λ e. omega arith))
-refusal-split OutOfRange G f g h = h (apart OutOfRange NoReset (λ e. omega arith)) (apart OutOfRange LongScriptLine (λ e. omega arith))
-refusal-split NotAllowed G f g h = h (apart NotAllowed NoReset (λ e. omega arith)) (apart NotAllowed LongScriptLine (λ e. omega arith))
-refusal-split NoRoom G f g h = h (apart NoRoom NoReset (λ e. omega arith)) (apart NoRoom LongScriptLine (λ e. omega arith))
-refusal-split LongLine G f g h = h (apart LongLine NoReset (λ e. omega arith)) (apart LongLine LongScriptLine (λ e. omega arith))
-refusal-split BadEvent G f g h = h (apart BadEvent NoReset (λ e. omega arith)) (apart BadEvent LongScriptLine (λ e. omega arith))
-refusal-split NoReset G f g h = f refl
-refusal-split LongScriptLine G f g h = g refl
-refusal-split BadTraces G f g h = h (apart BadTraces NoReset (λ e. omega arith)) (apart BadTraces LongScriptLine (λ e. omega arith))
-refusal-split BadStart G f g h = h (apart BadStart NoReset (λ e. omega arith)) (apart BadStart LongScriptLine (λ e. omega arith))
-refusal-split BadState G f g h = h (apart BadState NoReset (λ e. omega arith)) (apart BadState LongScriptLine (λ e. omega arith))
+seven-eight : NoReset ≢ LongScriptLine
+seven-eight = apart NoReset LongScriptLine (λ e. omega arith)
 
 order-split : (i j : ℕ) (Goal : Type 0) → (i < j → Goal) → (i ≡ j → Goal) → (j < i → Goal) → Goal
 order-split i j G f g h =
@@ -210,88 +200,116 @@ module _ (model : Model) (lines : List (List ℕ)) where
           earlier = course-earlier;
         }
 
-    -- no line before is over-long
+    -- no line up to there is over-long
     short-to : r ≢ LongScriptLine → (m : ℕ) → m ≤ suc i → Short lines m
     short-to n zero h = short-zero
     short-to n (suc j) h =
         order-split j i (Short lines (suc j)) (λ l. short-suc j (short-passes model lines startBoth j (rw e l)))
-        (λ l. rw l (short-suc i (short-here model lines startBoth i p r e n))) (λ l. absurd (omega arith))
+        (λ l.
+        stop-split model lines startBoth i p r (Short lines (suc j)) e (λ t z q. absurd (n z))
+        (λ t z. rw l (short-suc i t)))
+        (λ l. absurd (omega arith))
 
   -- ---- each verdict
+
+  starts : Begins 1 (finds model lines) (leadOf lines)
+  starts = begins-found model 1 lines startBoth refl
 
   all-pass : modelFits model ≡ true → finds model lines ≡ fine → AllPass model lines
   all-pass fits e =
       record {
         startable = fits-start model fits;
-        begun = led-fine model 1 lines startBoth refl e;
+        begun = by starts;
         short = short-every (λ i. short-passes model lines startBoth i (rw e tt));
         passed = course-fine e;
       }
-
-  long-suc : (i : ℕ) → tooLong (getD lines i []) ≡ true → Short lines (suc i) → ⊥
-  unfolding lineAt
-  long-suc i e f = false≢true (sym f ∙ e)
-
-  begins-none : begins none ≡ true → ⊥
-  unfolding begins
-  begins-none e = false≢true e
-
-  begins-is : (n p : ℕ) (c : Parsed) → begins (first n p c) ≡ isReset c
-  unfolding begins
-  begins-is n p c = refl
-
-  refused-apart : (k : Course model lines) (n p : ℕ) (r : Refusal) → answers k n ≡ Refused r p → answers k n ≡ Passed → ⊥
-  refused-apart k n p r e f = not-passed r p (sym e ∙ f)
+    where
+      by : Begins 1 (finds model lines) (leadOf lines) → begins (leadOf lines) ≡ true
+      by (withReset n q c u w x) = unfold begins in rw u w
+      by (withOther i p n c f z u w) = never (cc)
+      by (withNothing f u) = never (cc)
+      by (withLong i f u) = never (cc)
 
   -- 7
   not-begun : (i p : ℕ) → finds model lines ≡ stop i p NoReset → NotBegun lines (suc i) p
-  not-begun i p e =
-      let c = led-seven model 1 lines startBoth i p refl e in
-      let z : 1 + i ≡ suc i = omega arith in
-      other (suc i) p (c .0) (c .1 ∙ ap (λ (n : ℕ). first n p (c .0)) z) (c .2) (short-to i p NoReset e seven-eight)
+  not-begun i p e = by starts where
+    by : Begins 1 (finds model lines) (leadOf lines) → NotBegun lines (suc i) p
+    by (withReset n q c u w x) = let k : NoReset ≢ NoReset = rw e at x in absurd (k refl)
+    by (withOther j q n c f z u w) =
+        let a : stop j q NoReset ≡ stop i p NoReset = sym f ∙ e in
+        let b : j ≡ i = cc in
+        let d : q ≡ p = cc in
+        let m : n ≡ suc i = omega arith in
+        other (suc i) p c (u ∙ rw (m, d) refl) w (short-to i p NoReset e seven-eight)
+    by (withNothing f u) = never (cc)
+    by (withLong j f u) = absurd (seven-eight (cc))
 
   no-command : finds model lines ≡ noCommand → NotBegun lines 1 1
-  no-command e = nothing (led-none model 1 lines startBoth refl e) (short-every (λ i. short-passes model lines startBoth i (rw e tt)))
+  no-command e = nothing (by starts) (short-every (λ i. short-passes model lines startBoth i (rw e tt))) where
+    by : Begins 1 (finds model lines) (leadOf lines) → leadOf lines ≡ none
+    by (withReset n q c u w x) = absurd (rw e at x)
+    by (withOther i p n c f z u w) = never (cc)
+    by (withNothing f u) = u
+    by (withLong i f u) = never (cc)
 
   -- 8
   long-at : (i p : ℕ) → finds model lines ≡ stop i p LongScriptLine → LongAt model lines (suc i) p
   unfolding lineAt
   long-at i p e =
-      let k = long-here model lines startBoth i p e in
-      record {
-        nowhere = k .0;
-        long = k .1;
-        begun = λ m q c f h. led-before model 1 lines startBoth i p LongScriptLine refl e m q c f (omega arith);
-        before = course-before i p LongScriptLine e;
-      }
+      stop-split model lines startBoth i p LongScriptLine (LongAt model lines (suc i) p) e
+      (λ t z q.
+      record { nowhere = q; long = t; begun = λ m y c f h. by m y c f h starts; before = course-before i p LongScriptLine e })
+      (λ t h. absurd (omega arith))
+    where
+      by : (m q : ℕ) (c : Parsed) → leadOf lines ≡ first m q c → m < suc i
+          → Begins 1 (finds model lines) (leadOf lines) → isReset c ≡ true
+      by m q c f h (withReset n y d u w x) =
+          let z : first n y d ≡ first m q c = sym u ∙ f in
+          let b : d ≡ c = cc in
+          rw (sym b) w
+      by m q c f h (withOther j p n d k z u w) = absurd (seven-eight (cc))
+      by m q c f h (withNothing k u) = never (cc)
+      by m q c f h (withLong j k u) =
+          let b : j ≡ i = cc in
+          absurd (omega (arith, u m q c f))
 
   -- ---- and back
 
-  module _ (fits : modelFits model ≡ true) where
-    fine-back : AllPass model lines → finds model lines ≡ fine
-    fine-back a =
-        found-split (finds model lines) (finds model lines ≡ fine) (λ e. e)
-        (λ e. absurd (begins-none (rw (led-none model 1 lines startBoth refl e) at (a .begun))))
-        (λ i p r e.
-        refusal-split r (finds model lines ≡ fine)
-        (λ z.
-        let f : finds model lines ≡ stop i p NoReset = rw z at e in
-        let c = led-seven model 1 lines startBoth i p refl f in
-        let b : begins (first (1 + i) p (c .0)) ≡ true = rw (c .1) at (a .begun) in
-        absurd (false≢true (sym (c .2) ∙ (sym (begins-is (1 + i) p (c .0)) ∙ b))))
-        (λ z.
-        let f : finds model lines ≡ stop i p LongScriptLine = rw z at e in
-        absurd (long-suc i (long-here model lines startBoth i p f .1) (a .short (suc i))))
-        (λ x y.
-        let k = refused-first i p r e fits x y in
-        absurd (refused-apart (k .witness) (suc i) p r (k .refuses) (a .passed (k .witness) (suc i)))))
+  long-suc : (i : ℕ) → tooLong (getD lines i []) ≡ true → Short lines (suc i) → ⊥
+  unfolding lineAt
+  long-suc i e f = false≢true (sym f ∙ e)
 
-    -- a long line of the low course
-    long-refused : (i : ℕ) → tooLong (getD lines i []) ≡ true → ((k : Course model lines) → answers k (suc i) ≡ Passed) → ⊥
+  begins-is : (n p : ℕ) (c : Parsed) → leadOf lines ≡ first n p c → begins (leadOf lines) ≡ isReset c
+  unfolding begins
+  begins-is n p c u = rw u refl
+
+  refused-apart : (k : Course model lines) (n p : ℕ) (r : Refusal) → answers k n ≡ Refused r p → answers k n ≡ Passed → ⊥
+  refused-apart k n p r e f = not-passed r p (sym e ∙ f)
+
+  module _ (fits : modelFits model ≡ true) where
+    -- where the check stops after *RST, some course is refused
+    stop-refused : (i p : ℕ) (r : Refusal) → finds model lines ≡ stop i p r → r ≢ NoReset
+        → ((k : Course model lines) → answers k (suc i) ≡ Passed) → ⊥
     unfolding answers
-    long-refused i e f =
+    stop-refused i p r e n f =
+        stop-split model lines startBoth i p r ⊥ e
+        (λ t z q.
         let k = course-of model fits low lines in
-        refused-apart k (suc i) 0 LongLine (long-answers lines (k .gaps) (k .start) (course-open model lines k) i e) (f k)
+        refused-apart k (suc i) 0 LongLine (long-answers lines (k .gaps) (k .start) (course-open model lines k) i t) (f k))
+        (λ t h.
+        let k = refused-first i p r e fits n (apart r LongScriptLine (λ z. omega arith)) in
+        refused-apart (k .witness) (suc i) p r (k .refuses) (f (k .witness)))
+
+    fine-back : AllPass model lines → finds model lines ≡ fine
+    fine-back a = by starts where
+      by : Begins 1 (finds model lines) (leadOf lines) → finds model lines ≡ fine
+      by (withReset n q c u w x) =
+          found-split (finds model lines) (finds model lines ≡ fine) (λ e. e) (λ e. absurd (rw e at x))
+          (λ i p r e. absurd (stop-refused i p r e (rw e at x) (λ k. a .passed k (suc i))))
+      by (withOther i p n c e z u w) = absurd (false≢true (sym w ∙ (sym (begins-is n p c u) ∙ a .begun)))
+      by (withNothing e u) = absurd (false≢true (unfold begins in rw u at (a .begun)))
+      by (withLong i e u) =
+          absurd (stop-refused i 0 LongScriptLine e (λ z. seven-eight (sym z)) (λ k. a .passed k (suc i)))
 
     long-back : (j p : ℕ) → LongAt model lines (suc j) p → finds model lines ≡ stop j 0 LongScriptLine
     unfolding lineAt
@@ -301,84 +319,51 @@ module _ (model : Model) (lines : List (List ℕ)) where
         (λ e. absurd (false≢true (sym (short-passes model lines startBoth j (rw e tt)) ∙ a .long)))
         (λ i q r e.
         order-split i j (finds model lines ≡ stop j 0 LongScriptLine)
+        (λ h. absurd (stop-refused i q r e (begun i q r e h starts) (λ k. a .before k (suc i) (omega arith))))
         (λ h.
-        absurd
-        (refusal-split r ⊥
-        (λ z.
-        let f : finds model lines ≡ stop i q NoReset = rw z at e in
-        let c = led-seven model 1 lines startBoth i q refl f in
-        false≢true (sym (c .2) ∙ a .begun (1 + i) q (c .0) (c .1) (omega arith)))
-        (λ z.
-        let f : finds model lines ≡ stop i q LongScriptLine = rw z at e in
-        long-refused i (long-here model lines startBoth i q f .1) (λ k. a .before k (suc i) (omega arith)))
-        (λ x y.
-        let k = refused-first i q r e fits x y in
-        refused-apart (k .witness) (suc i) q r (k .refuses) (a .before (k .witness) (suc i) (omega arith)))))
-        (λ h.
-        let here : tooLong (getD lines i []) ≡ true = rw h (a .long) in
-        let x : (r ≢ LongScriptLine) → ⊥ = λ n. false≢true (sym (short-here model lines startBoth i q r e n) ∙ here) in
-        refusal-split r (finds model lines ≡ stop j 0 LongScriptLine)
-        (λ z. absurd (x (λ w. seven-eight (sym z ∙ w))))
-        (λ z.
-        let f : finds model lines ≡ stop i q LongScriptLine = rw z at e in
-        let n = long-here model lines startBoth i q f .0 in
-        f ∙ rw (h, n) refl)
-        (λ u v. absurd (x v)))
+        stop-split model lines startBoth i q r (finds model lines ≡ stop j 0 LongScriptLine) e
+        (λ t z y. e ∙ rw (h, z, y) refl)
+        (λ t y. absurd (false≢true (sym t ∙ rw h (a .long)))))
         (λ h. absurd (false≢true (sym (short-passes model lines startBoth j (rw e h)) ∙ a .long))))
+      where
+        -- before the over-long line the check does not stop by 7
+        begun : (i q : ℕ) (r : Refusal) → finds model lines ≡ stop i q r → i < j
+            → Begins 1 (finds model lines) (leadOf lines) → r ≢ NoReset
+        begun i q r e h (withReset n y c u w x) s = let k : r ≢ NoReset = rw e at x in k s
+        begun i q r e h (withOther k y n c f z u w) s =
+            let b : k ≡ i = cc in
+            false≢true (sym w ∙ a .begun n y c u (omega arith))
+        begun i q r e h (withNothing f u) s = never (cc)
+        begun i q r e h (withLong k f u) s = seven-eight (cc)
 
     -- the other first command, or none
-    other-back : (n p : ℕ) (c : Parsed) → leadOf lines ≡ first n p c → isReset c ≡ false → ((m : ℕ) → m ≤ n → Short lines m)
-        → verdictOf (finds model lines) ≡ No n p NoReset
-    other-back n p c l f s =
-        let never-begins : begins (leadOf lines) ≡ true → ⊥ = λ b.
-        let d : begins (first n p c) ≡ true = rw l at b in
-        false≢true (sym f ∙ (sym (begins-is n p c) ∙ d))
-        in
-        found-split (finds model lines) (verdictOf (finds model lines) ≡ No n p NoReset)
-        (λ e. absurd (never-begins (led-fine model 1 lines startBoth refl e)))
-        (λ e. let z : first n p c ≡ none = sym l ∙ led-none model 1 lines startBoth refl e in never (cc))
-        (λ i q r e.
-        refusal-split r (verdictOf (finds model lines) ≡ No n p NoReset)
-        (λ z.
-        let g : finds model lines ≡ stop i q NoReset = rw z at e in
-        let d = led-seven model 1 lines startBoth i q refl g in
-        let w : first (1 + i) q (d .0) ≡ first n p c = sym (d .1) ∙ l in
-        let t : 1 + i ≡ n = cc in
-        let u : lineNumber i ≡ n = omega arith in
-        let v : q ≡ p = cc in
-        rw (g, u, v) refl)
-        (λ z.
-        let g : finds model lines ≡ stop i q LongScriptLine = rw z at e in
-        let long = long-here model lines startBoth i q g .1 in
-        absurd
-        (bool-split (leb (suc i) n) ⊥
-        (λ h. long-suc i long (s (suc i) (leb-true (suc i) n h)))
-        (λ h.
-        let m = leb-false (suc i) n h in
-        false≢true (sym f ∙ led-before model 1 lines startBoth i q r refl e n p c l (omega arith)))))
-        (λ x y. absurd (never-begins (led-other model 1 lines startBoth i q r refl e x y))))
-
-    nothing-back : leadOf lines ≡ none → ((m : ℕ) → Short lines m) → verdictOf (finds model lines) ≡ No 1 1 NoReset
-    nothing-back l s =
-        let never-begins : begins (leadOf lines) ≡ true → ⊥ = λ b. begins-none (rw l at b) in
-        found-split (finds model lines) (verdictOf (finds model lines) ≡ No 1 1 NoReset)
-        (λ e. absurd (never-begins (led-fine model 1 lines startBoth refl e)))
-        (λ e. rw e refl)
-        (λ i q r e.
-        refusal-split r (verdictOf (finds model lines) ≡ No 1 1 NoReset)
-        (λ z.
-        let g : finds model lines ≡ stop i q NoReset = rw z at e in
-        let d = led-seven model 1 lines startBoth i q refl g in
-        let w : first (1 + i) q (d .0) ≡ none = sym (d .1) ∙ l in
-        never (cc))
-        (λ z.
-        let g : finds model lines ≡ stop i q LongScriptLine = rw z at e in
-        absurd (long-suc i (long-here model lines startBoth i q g .1) (s (suc i))))
-        (λ x y. absurd (never-begins (led-other model 1 lines startBoth i q r refl e x y))))
-
     begun-back : (n p : ℕ) → NotBegun lines n p → verdictOf (finds model lines) ≡ No n p NoReset
-    begun-back n p (other m q c l f s) = other-back n p c l f s
-    begun-back n p (nothing l s) = nothing-back l s
+    begun-back n p (other m q c l f s) = by starts where
+      by : Begins 1 (finds model lines) (leadOf lines) → verdictOf (finds model lines) ≡ No n p NoReset
+      by (withReset m y d u w x) =
+          let z : first m y d ≡ first n p c = sym u ∙ l in
+          let b : d ≡ c = cc in
+          absurd (false≢true (sym f ∙ rw (sym b) w))
+      by (withOther i y m d e z u w) =
+          let t : first m y d ≡ first n p c = sym u ∙ l in
+          let a : m ≡ n = cc in
+          let b : y ≡ p = cc in
+          let k : lineNumber i ≡ n = omega arith in
+          rw (e, k, b) refl
+      by (withNothing e u) = never (cc)
+      by (withLong i e u) =
+          stop-split model lines startBoth i 0 LongScriptLine (verdictOf (finds model lines) ≡ No n p NoReset) e
+          (λ t z q. absurd (long-suc i t (s (suc i) (omega (arith, u n p c l)))))
+          (λ t h. absurd (omega arith))
+    begun-back n p (nothing l s) = by starts where
+      by : Begins 1 (finds model lines) (leadOf lines) → verdictOf (finds model lines) ≡ No 1 1 NoReset
+      by (withReset m y d u w x) = never (cc)
+      by (withOther i y m d e z u w) = never (cc)
+      by (withNothing e u) = rw e refl
+      by (withLong i e u) =
+          stop-split model lines startBoth i 0 LongScriptLine (verdictOf (finds model lines) ≡ No 1 1 NoReset) e
+          (λ t z q. absurd (long-suc i t (s (suc i))))
+          (λ t h. absurd (omega arith))
 
 -- ---- the claim
 
@@ -390,7 +375,9 @@ found-nine : (model : Model) (lines : List (List ℕ)) (n p : ℕ) → verdictOf
 found-nine model lines n p e =
     verdict-no (finds model lines) n p BadTraces ⊥ e
     (λ a b c d. seven-nine (sym d))
-    (λ i a b. let z = stop-number model lines startBoth i p BadTraces a in omega arith)
+    (λ i a b.
+    stop-split model lines startBoth i p BadTraces ⊥ a (λ t z q. apart BadTraces LongScriptLine (λ u. omega arith) z)
+    (λ t h. omega arith))
 
 module _ (model : Model) (script : List ℕ) where
   -- the check's verdict v, where the model fits and where it doesn't
