@@ -7,7 +7,8 @@ use native.Mathlib.Omega.{arith}
 use lib.ListN.{length, getD}
 use Rattle.refusal.specs.Meaning.{meaningOf}
 use Rattle.refusal.specs.declared.Refusal.{Refusal}
-use Rattle.refusal.specs.declared.Refusal.the-variants.{Malformed, OutOfRange, NotAllowed, NoRoom, LongLine, BadEvent, NoReset, LongScriptLine, BadTraces, BadStart, BadState}
+use Rattle.refusal.specs.declared.Refusal.the-variants.{Malformed, OutOfRange, NotAllowed, NoRoom, LongLine, BadEvent}
+use Rattle.refusal.specs.declared.Refusal.the-variants.{NoReset, LongScriptLine, BadTraces, BadStart, BadState}
 use Rattle.two_courses.specs.Model.{modelOf}
 use Rattle.script.specs.Check.{checkOf}
 use Rattle.verdict.specs.declared.Verdict.{Verdict}
@@ -32,7 +33,9 @@ numbered BadStart = omega arith
 numbered BadState = omega arith
 
 abbrev in-order : List Refusal
-in-order = BadState ∷ Malformed ∷ OutOfRange ∷ NotAllowed ∷ NoRoom ∷ LongLine ∷ BadEvent ∷ NoReset ∷ LongScriptLine ∷ BadTraces ∷ BadStart ∷ []
+in-order =
+    BadState ∷ Malformed ∷ OutOfRange ∷ NotAllowed ∷ NoRoom ∷ LongLine ∷ BadEvent ∷ NoReset ∷ LongScriptLine ∷ BadTraces
+    ∷ BadStart ∷ []
 
 by-order : (r : Refusal) → getD in-order (meaningOf r .number) BadState ≡ r
 by-order Malformed = refl
@@ -75,12 +78,14 @@ fine-zero : (v : Verdict) → v ≡ Fine → numberOf v ≡ 0
 unfolding numberOf
 fine-zero v e = rw e
 
-reads : (line place : ℕ) (r : Refusal) → line ≤ lineMost → place ≤ placeMost → ReadsAs (numberOf (No line place r)) line place r
+reads : (line place : ℕ) (r : Refusal) → line ≤ lineMost → place ≤ placeMost
+    → ReadsAs (numberOf (No line place r)) line place r
 unfolding numberOf
 reads line place r h g =
     let f = numbered r .1 in
     let n = meaningOf r .number in
-    record { in-line = line-read line place n h g f; at-place = place-read line place n h g f; by-number = refusal-read line place n h g f }
+    record { in-line = line-read line place n h g f; at-place = place-read line place n h g f; by-number = refusal-read
+        line place n h g f }
 
 module _ (v : Verdict) (line place : ℕ) (r : Refusal) where
   told : Fits v → v ≡ No line place r → ReadsAs (numberOf v) line place r
@@ -89,7 +94,8 @@ module _ (v : Verdict) (line place : ℕ) (r : Refusal) where
   back : Fits v → ReadsAs (numberOf v) line place r → v ≡ No line place r
   back = by v where
     by : (v : Verdict) → Fits v → ReadsAs (numberOf v) line place r → v ≡ No line place r
-    by Fine f e = let z : 0 ≡ meaningOf r .number = unfold numberOf in e .by-number in absurd (omega (arith, numbered r .0))
+    by Fine f e =
+        let z : 0 ≡ meaningOf r .number = unfold numberOf in e .by-number in absurd (omega (arith, numbered r .0))
     by (No l p s) f e =
         let k = reads l p s (f .0) (f .1) in
         let a : l ≡ line = cc in

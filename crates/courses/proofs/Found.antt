@@ -111,7 +111,8 @@ bothAt model [] b i = b
 bothAt model (l ∷ ls) b zero = b
 bothAt model (l ∷ ls) b (suc i) = bothAt model ls (lineAfter model l b) i
 
-pub stop-answer : (model : Model) (ls : List (List ℕ)) (b : Both) (i p : ℕ) (r : Refusal) → found model ls b ≡ stop i p r
+pub stop-answer : (model : Model) (ls : List (List ℕ)) (b : Both) (i p : ℕ) (r : Refusal)
+    → found model ls b ≡ stop i p r
     → lineAnswer model (getD ls i []) (bothAt model ls b i) ≡ Refused r p
 unfolding bothAt
 stop-answer model [] b i p r e = end-stop model b i p r e
@@ -121,13 +122,15 @@ stop-answer model (l ∷ ls) b (suc i) p r e =
 
 -- ---- a line's commands
 
--- a line passes where its first command does and the rest; else its answer is the first command's refusal, or the rest's
+-- a line passes where its first command does and the rest; else its answer is the first command's refusal, or the
+-- rest's
 pub answer-passed : (o : Outcome) (p : ℕ) (a : Answer) → answerAt o p a ≡ Passed → (o ≡ outcome.Done) × (a ≡ Passed)
 unfolding answerAt
 answer-passed outcome.Done p a e = (refl, e)
 answer-passed (outcome.Refused r) p a e = not-passed r p e
 
-pub answer-split : (o : Outcome) (p : ℕ) (a : Answer) (q : ℕ) (r : Refusal) (Goal : Type 0) → answerAt o p a ≡ Refused r q
+pub answer-split : (o : Outcome) (p : ℕ) (a : Answer) (q : ℕ) (r : Refusal) (Goal : Type 0)
+    → answerAt o p a ≡ Refused r q
     → (o ≡ outcome.Done → a ≡ Refused r q → Goal) → (o ≡ outcome.Refused r → p ≡ q → Goal) → Goal
 unfolding answerAt
 answer-split outcome.Done p a q r G e f g = f refl e

@@ -46,11 +46,14 @@ or-true : (a b : Bool) → b ≡ true → (a || b) ≡ true
 or-true true b e = refl
 or-true false b e = e
 
-lead-split : (model : Model) (b : Both) → b .begun ≡ false → (p : Parsed) (line place : ℕ) (later : Lead) (Goal : Type 0)
-    → (Skipped model b p line place later → Goal) → (Begun model b p line place later → Goal) → (Unled b p line place later → Goal) → Goal
+lead-split : (model : Model) (b : Both) → b .begun ≡ false
+    → (p : Parsed) (line place : ℕ) (later : Lead) (Goal : Type 0)
+    → (Skipped model b p line place later → Goal) → (Begun model b p line place later → Goal)
+    → (Unled b p line place later → Goal) → Goal
 unfolding textRefusal textAfter leadBy isReset
 lead-split model b k parsed.Empty line place later G f g h = f (record { outcome = refl; after = refl; lead = refl })
-lead-split model b k (parsed.Refused r) line place later G f g h = h (record { outcome = rw k refl; lead = refl; reset = refl })
+lead-split model b k (parsed.Refused r) line place later G f g h =
+    h (record { outcome = rw k refl; lead = refl; reset = refl })
 lead-split model b k (parsed.Taken c) line place later G f g h = by (resets (c .kind)) refl where
   by : (t : Bool) → resets (c .kind) ≡ t → G
   by true e =
@@ -67,7 +70,8 @@ lead-split model b k (parsed.Taken c) line place later G f g h = by (resets (c .
 module _ (model : Model) (line : ℕ) (Goal : Type 0) where
   early-passed : (place : ℕ) (ts : List (List ℕ)) (b : Both) → b .begun ≡ false → textsAnswer model place ts b ≡ Passed
       → (leadIn line place ts ≡ none → textsAfter model ts b .begun ≡ false → Goal)
-      → ((q : ℕ) (c : Parsed) → leadIn line place ts ≡ first line q c → isReset c ≡ true → textsAfter model ts b .begun ≡ true → Goal) → Goal
+      → ((q : ℕ) (c : Parsed) → leadIn line place ts ≡ first line q c → isReset c ≡ true → textsAfter model ts b .begun
+      ≡ true → Goal) → Goal
   unfolding textsAnswer textsAfter leadIn
   early-passed place [] b k e f g = f refl k
   early-passed place (t ∷ ts) b k e f g =
@@ -82,14 +86,16 @@ module _ (model : Model) (line : ℕ) (Goal : Type 0) where
       (λ s. g place p (s .lead) (s .reset) (begun-texts model ts (textAfter model p b) (s .after)))
       (λ s. not-done NoReset (sym (s .outcome) ∙ a .0))
 
-  early-refused : (place : ℕ) (ts : List (List ℕ)) (b : Both) (r : Refusal) (p : ℕ) → b .begun ≡ false → textsAnswer model place ts b ≡ Refused r p
+  early-refused : (place : ℕ) (ts : List (List ℕ)) (b : Both) (r : Refusal) (p : ℕ) → b .begun ≡ false
+      → textsAnswer model place ts b ≡ Refused r p
       → ((c : Parsed) → r ≡ NoReset → leadIn line place ts ≡ first line p c → isReset c ≡ false → Goal)
       → ((q : ℕ) (c : Parsed) → leadIn line place ts ≡ first line q c → isReset c ≡ true → numberOf r ≤ 3 → Goal) → Goal
   unfolding textsAnswer leadIn
   early-refused place [] b r p k e f g = not-passed r p (sym e)
   early-refused place (t ∷ ts) b r p k e f g =
       let x = parsedOf t in
-      let split = answer-split (textRefusal x b) place (textsAnswer model (place + 1) ts (textAfter model x b)) p r Goal e in
+      let split = answer-split (textRefusal x b) place (textsAnswer model (place + 1) ts (textAfter model x b)) p r Goal
+          e in
       lead-split model b k x line place (leadIn line (place + 1) ts) Goal
       (λ s.
       split
@@ -115,7 +121,8 @@ lead-line : (line place : ℕ) (ts : List (List ℕ)) (m q : ℕ) (c : Parsed) �
 unfolding leadIn
 lead-line line place [] m q c e = never (cc)
 lead-line line place (t ∷ ts) m q c e = by (parsedOf t) e (lead-line line (place + 1) ts m q c) where
-  by : (p : Parsed) → leadBy p line place (leadIn line (place + 1) ts) ≡ first m q c → (leadIn line (place + 1) ts ≡ first m q c → line ≡ m) → line ≡ m
+  by : (p : Parsed) → leadBy p line place (leadIn line (place + 1) ts) ≡ first m q c
+      → (leadIn line (place + 1) ts ≡ first m q c → line ≡ m) → line ≡ m
   by parsed.Empty f g = g (unfold leadBy in f)
   by (parsed.Refused r) f g = let z : first line place (parsed.Refused r) ≡ first m q c = unfold leadBy in f in cc
   by (parsed.Taken k) f g = let z : first line place (parsed.Taken k) ≡ first m q c = unfold leadBy in f in cc
@@ -133,11 +140,13 @@ lead-from line (l ∷ ls) m q c e = by (leadIn line 1 (textsOf l)) refl e (lead-
       let w : n ≡ m = cc in
       omega arith
 
-skip-line : (line : ℕ) (l : List ℕ) (ls : List (List ℕ)) → leadIn line 1 (textsOf l) ≡ none → leadFrom line (l ∷ ls) ≡ leadFrom (line + 1) ls
+skip-line : (line : ℕ) (l : List ℕ) (ls : List (List ℕ)) → leadIn line 1 (textsOf l) ≡ none
+    → leadFrom line (l ∷ ls) ≡ leadFrom (line + 1) ls
 unfolding leadFrom orElse
 skip-line line l ls e = rw e refl
 
-take-line : (line : ℕ) (l : List ℕ) (ls : List (List ℕ)) (n q : ℕ) (c : Parsed) → leadIn line 1 (textsOf l) ≡ first n q c → leadFrom line (l ∷ ls) ≡ first n q c
+take-line : (line : ℕ) (l : List ℕ) (ls : List (List ℕ)) (n q : ℕ) (c : Parsed)
+    → leadIn line 1 (textsOf l) ≡ first n q c → leadFrom line (l ∷ ls) ≡ first n q c
 unfolding leadFrom orElse
 take-line line l ls n q c e = rw e refl
 
@@ -174,7 +183,8 @@ begun-found model (l ∷ ls) b k = by (lineAnswer model l b) refl (begun-found m
 
 -- ---- how it begins
 
--- Seen from a line number on: with *RST; with another command, where the check stops by 7; with none; or the check stops
+-- Seen from a line number on: with *RST; with another command, where the check stops by 7; with none; or the check
+-- stops
 -- at an over-long line that no command stands before.
 pub data Begins (line : ℕ) (v : Found) (lead : Lead) : Type 0 where
   withReset : (n q : ℕ) (c : Parsed) → lead ≡ first n q c → isReset c ≡ true → AfterReset v → Begins line v lead
@@ -192,9 +202,11 @@ begins-later line v lead (withLong i e f) = withLong (suc i) (ap later e) (λ n 
 
 module _ (model : Model) where
   -- a line before *RST that passes
-  line-led : (line : ℕ) (l : List ℕ) (ls : List (List ℕ)) (b : Both) (Goal : Type 0) → b .begun ≡ false → lineAnswer model l b ≡ Passed
+  line-led : (line : ℕ) (l : List ℕ) (ls : List (List ℕ)) (b : Both) (Goal : Type 0) → b .begun ≡ false
+      → lineAnswer model l b ≡ Passed
       → (leadFrom line (l ∷ ls) ≡ leadFrom (line + 1) ls → lineAfter model l b .begun ≡ false → Goal)
-      → ((q : ℕ) (c : Parsed) → leadFrom line (l ∷ ls) ≡ first line q c → isReset c ≡ true → lineAfter model l b .begun ≡ true → Goal) → Goal
+      → ((q : ℕ) (c : Parsed) → leadFrom line (l ∷ ls) ≡ first line q c → isReset c ≡ true → lineAfter model l b .begun
+      ≡ true → Goal) → Goal
   line-led line l ls b Goal k e f g =
       early-passed model line Goal 1 (textsOf l) (gapOf model b) (gap-begun model b ∙ k) (passed-short model l b e .1)
       (λ u v. f (skip-line line l ls u) v)
@@ -208,7 +220,8 @@ module _ (model : Model) where
       by (lineAnswer model l b) refl (begins-found (line + 1) ls (lineAfter model l b))
     where
       by : (a : Answer) → lineAnswer model l b ≡ a
-          → (lineAfter model l b .begun ≡ false → Begins (line + 1) (found model ls (lineAfter model l b)) (leadFrom (line + 1) ls))
+          → (lineAfter model l b .begun ≡ false → Begins (line + 1) (found model ls (lineAfter model l b))
+          (leadFrom (line + 1) ls))
           → Begins line (foundBy a (found model ls (lineAfter model l b))) (leadFrom line (l ∷ ls))
       by Passed e next =
           unfold foundBy in

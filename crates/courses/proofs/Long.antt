@@ -21,7 +21,8 @@ use Rattle.two_courses.specs.Courses.{resets, gapOf, kindRefusal, textRefusal, 
 use Rattle.two_courses.specs.declared.Both.{Both}
 use Rattle.script.specs.Check.{textsAnswer, textsAfter, tooLong, lineAnswer, lineAfter, stop, found}
 use Rattle.demands.proofs.Sane.{SaneParsed, parsed-sane}
-use Rattle.courses.proofs.Found.{not-passed, not-done, Passes, passes-here, passes-next, bothAt, stop-answer, answer-split}
+use Rattle.courses.proofs.Found.{not-passed, not-done, Passes, passes-here, passes-next, bothAt, stop-answer}
+use Rattle.courses.proofs.Found.{answer-split}
 use Rattle.courses.proofs.Witness.{refused-same}
 
 -- ---- the numbers that the check gives
@@ -86,10 +87,12 @@ begun-kept model parsed.Empty b e = e
 begun-kept model (parsed.Refused r) b e = e
 begun-kept model (parsed.Taken c) b e = rw e refl
 
-pub begun-texts : (model : Model) (ts : List (List ℕ)) (b : Both) → b .begun ≡ true → textsAfter model ts b .begun ≡ true
+pub begun-texts : (model : Model) (ts : List (List ℕ)) (b : Both) → b .begun ≡ true
+    → textsAfter model ts b .begun ≡ true
 unfolding textsAfter
 begun-texts model [] b e = e
-begun-texts model (t ∷ ts) b e = begun-texts model ts (textAfter model (parsedOf t) b) (begun-kept model (parsedOf t) b e)
+begun-texts model (t ∷ ts) b e =
+    begun-texts model ts (textAfter model (parsedOf t) b) (begun-kept model (parsedOf t) b e)
 
 pub gap-begun : (model : Model) (b : Both) → gapOf model b .begun ≡ b .begun
 unfolding gapOf
@@ -114,7 +117,8 @@ module _ (model : Model) (l : List ℕ) (b : Both) where
   -- 8 is told of an over-long line, a number up to 7 of a line that runs
   pub refused-split : (r : Refusal) (p : ℕ) (Goal : Type 0) → lineAnswer model l b ≡ Refused r p
       → (tooLong l ≡ true → r ≡ LongScriptLine → p ≡ 0 → Goal)
-      → (tooLong l ≡ false → textsAnswer model 1 (textsOf l) (gapOf model b) ≡ Refused r p → numberOf r ≤ 7 → Goal) → Goal
+      → (tooLong l ≡ false → textsAnswer model 1 (textsOf l) (gapOf model b) ≡ Refused r p → numberOf r ≤ 7 → Goal)
+      → Goal
   unfolding lineAnswer
   refused-split r p Goal = by (tooLong l) where
     by : (t : Bool) → cond t (Refused LongScriptLine 0) (textsAnswer model 1 (textsOf l) (gapOf model b)) ≡ Refused r p
@@ -142,4 +146,5 @@ pub stop-split : (model : Model) (ls : List (List ℕ)) (b : Both) (i p : ℕ) (
     → found model ls b ≡ stop i p r → (tooLong (getD ls i []) ≡ true → r ≡ LongScriptLine → p ≡ 0 → Goal)
     → (tooLong (getD ls i []) ≡ false → numberOf r ≤ 7 → Goal) → Goal
 stop-split model ls b i p r Goal e f g =
-    refused-split model (getD ls i []) (bothAt model ls b i) r p Goal (stop-answer model ls b i p r e) f (λ t x h. g t h)
+    refused-split model (getD ls i []) (bothAt model ls b i) r p Goal (stop-answer model ls b i p r e) f
+        (λ t x h. g t h)

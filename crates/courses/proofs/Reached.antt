@@ -19,12 +19,14 @@ use Rattle.two_courses.specs.declared.Model.{Model}
 use Rattle.two_courses.specs.Courses.{gapOf, measuredHigh}
 use Rattle.two_courses.specs.declared.Both.{Both}
 use Rattle.script.specs.Check.{lineAnswer, lineAfter, stop, found}
-use Rattle.courses.specs.Course.{World, lineIn, afterLine, afterEvent, afterEvents, Gap, Gaps, GapsFit, crowded, Roomy, answerOf}
+use Rattle.courses.specs.Course.{World, lineIn, afterLine, afterEvent, afterEvents, Gap, Gaps, GapsFit, crowded}
+use Rattle.courses.specs.Course.{Roomy, answerOf}
 use Rattle.courses.proofs.Alike.{Alike}
 use Rattle.courses.proofs.Found.{found-here, found-later, end-stop}
 use Rattle.courses.proofs.Long.{passed-short, refused-short}
 use Rattle.courses.proofs.Sound.{Open, open-allowed, line-open, event-open, event-is, line-short, events-open}
-use Rattle.courses.proofs.Witness.{Side, low, high, At, at-run, run-refuses, highest, eventsOf, events-fit, measured-at, triggered-at}
+use Rattle.courses.proofs.Witness.{Side, low, high, At, at-run, run-refuses, highest, eventsOf, events-fit}
+use Rattle.courses.proofs.Witness.{measured-at, triggered-at}
 use Rattle.courses.proofs.Sized.{Sized, measured-sized, trigger-sized}
 use Rattle.courses.proofs.Rooms.{enough, room-enough, line-sized}
 
@@ -58,7 +60,8 @@ module _ (model : Model) (b : Both) (l : List ℕ) where
   -- in the course of a side, where the events before the line have happened and the room is enough for it
   abbrev Ran : Side → (World → ℕ → Type 0) → Type 0
   Ran d Then =
-      (w : World) → Open w → At d model (gapOf model b) (w .core .state) → (room : ℕ) → crowded room l w ≡ false → Then w room
+      (w : World) → Open w → At d model (gapOf model b) (w .core .state) → (room : ℕ) → crowded room l w ≡ false
+          → Then w room
 
   -- the line leaves the course where the check goes, or is refused in it
   line-at : (d : Side) → lineAnswer model l b ≡ Passed
@@ -102,7 +105,8 @@ pub gapsFor : Side → Model → (ls : List (List ℕ)) → Both → Gaps ls
 gapsFor d model [] b = tt
 gapsFor d model (l ∷ ls) b = (gapFor d b, gapsFor d model ls (lineAfter model l b))
 
-pub gaps-roomy : (d : Side) (model : Model) (ls : List (List ℕ)) (b : Both) (w : World) → Open w → Sized (w .core .state)
+pub gaps-roomy : (d : Side) (model : Model) (ls : List (List ℕ)) (b : Both) (w : World) → Open w
+    → Sized (w .core .state)
     → Roomy ls (gapsFor d model ls b) w
 unfolding gapsFor
 gaps-roomy d model [] b w o k = tt

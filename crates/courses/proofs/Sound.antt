@@ -123,7 +123,8 @@ module _ (model : Model) (b : Both) (w : World) (o : Open w) (i : Sim model b (w
     sim-before = sim-gap model b (g .events) w o i
 
     next-passed : lineAnswer model l b ≡ Passed
-        → (lineIn (g .room) l (before g w) .told .answer ≡ Passed) × Sim model (lineAfter model l b) (after g l w .core .state)
+        → (lineIn (g .room) l (before g w) .told .answer ≡ Passed)
+        × Sim model (lineAfter model l b) (after g l w .core .state)
     unfolding lineOf
     next-passed e =
         let p = passed-short model l b e in
@@ -147,7 +148,8 @@ pub script-passes : (model : Model) (ls : List (List ℕ)) (b : Both) (w : World
     → Sim model b (w .core .state) → Roomy ls g w → (n : ℕ) → Passes (found model ls b) n → answerOf ls g w n ≡ Passed
 unfolding answerOf
 script-passes model [] b w g o i c n h = refl
-script-passes model (l ∷ ls) b w g o i c zero h = next-passed model b w o i (g .0) l (c .0) (passes-here model l ls b zero h) .0
+script-passes model (l ∷ ls) b w g o i c zero h =
+    next-passed model b w o i (g .0) l (c .0) (passes-here model l ls b zero h) .0
 script-passes model (l ∷ ls) b w g o i c (suc n) h =
     let k = next-passed model b w o i (g .0) l (c .0) (passes-here model l ls b (suc n) h) in
     script-passes model ls (lineAfter model l b) (after (g .0) l w) (g .1) (open-after model b w o i (g .0) l (c .0))

@@ -212,7 +212,8 @@ module _ (capacity end : ℕ) where
   low-other-fill : (t : Bool) (s r : Storage) → Low capacity s r → Low capacity s (fill t capacity end r)
   low-other-fill t s r l = other-fill t s (r .phase) (r .held) (r .next) l
 
-  low-fill : (t : Bool) (s r : Storage) → Low capacity s r → Low capacity (fill t capacity end s) (fill t capacity end r)
+  low-fill : (t : Bool) (s r : Storage) → Low capacity s r
+      → Low capacity (fill t capacity end s) (fill t capacity end r)
   low-fill t s r l = both-fill t (s .phase) (s .held) (s .next) (r .phase) (r .held) (r .next) l
 
   -- a storage that takes a point is as little reset as before
@@ -223,7 +224,8 @@ module _ (capacity end : ℕ) where
 
   at-reset : (t : Bool) (p : Phase) (h n : ℕ) → isReset (fill t capacity end (at p h n)) ≡ isReset (at p h n)
   unfolding fill isRunning storedOf isReset
-  at-reset true Running h n = put-reset (fullInOneShot (heldAfter h capacity) capacity end) (heldAfter h capacity) (nextSlot n capacity)
+  at-reset true Running h n =
+      put-reset (fullInOneShot (heldAfter h capacity) capacity end) (heldAfter h capacity) (nextSlot n capacity)
   at-reset false Running h n = refl
   at-reset t Reset h n = refl
   at-reset t Paused h n = refl
@@ -234,7 +236,8 @@ module _ (capacity end : ℕ) where
 
 -- ---- a tick and a trigger
 
-ticked-is : (s : Storage) (capacity : ℕ) (by : Sampling) → tickedOf s capacity by .storage ≡ fill (not (eqb (by .rate) externalRate)) capacity (by .end) s
+ticked-is : (s : Storage) (capacity : ℕ) (by : Sampling)
+    → tickedOf s capacity by .storage ≡ fill (not (eqb (by .rate) externalRate)) capacity (by .end) s
 unfolding tickedOf tickStores fill
 ticked-is s capacity by = refl
 
@@ -247,7 +250,8 @@ module _ (capacity : ℕ) (by : Sampling) where
   pub low-ticked : (s r : Storage) → Low capacity s r → Low capacity s (tickedOf r capacity by .storage)
   low-ticked s r l = rw (ticked-is r capacity by) (low-other-fill capacity (by .end) _ s r l)
 
-  readied-both : (t : Bool) (s r : Storage) → Low capacity s r → Low capacity (cond t (startedOf s) s) (cond t (startedOf r) r)
+  readied-both : (t : Bool) (s r : Storage) → Low capacity s r
+      → Low capacity (cond t (startedOf s) s) (cond t (startedOf r) r)
   readied-both true s r l = low-started capacity s r l
   readied-both false s r l = l
 
@@ -255,7 +259,8 @@ module _ (capacity : ℕ) (by : Sampling) where
   readied-other true s r l = low-begun capacity s r l
   readied-other false s r l = l
 
-  pub low-triggered : (s r : Storage) → Low capacity s r → Low capacity (triggeredOf s capacity by .storage) (triggeredOf r capacity by .storage)
+  pub low-triggered : (s r : Storage) → Low capacity s r
+      → Low capacity (triggeredOf s capacity by .storage) (triggeredOf r capacity by .storage)
   unfolding readiedOf
   low-triggered s r l =
       rw (triggered-is s capacity by, triggered-is r capacity by)

@@ -23,8 +23,10 @@ use Rattle.script.specs.Check.{tooLong, Found, fine, noCommand, stop, found, li
 use Rattle.verdict.specs.declared.Verdict.{Verdict}
 use Rattle.verdict.specs.declared.Verdict.the-variants.{Fine, No}
 use Rattle.demands.proofs.StaysAllowed.{stays-allowed}
-use Rattle.courses.specs.Course.{World, StartAnswers, Startable, freshWorld, before, after, Gaps, Course, answerOf, answers}
-use Rattle.courses.specs.Demand3.{lineAt, Short, none, first, leadOf, isReset, begins, AllPass, FirstRefused, NotBegun, other, nothing, LongAt, Demand3}
+use Rattle.courses.specs.Course.{World, StartAnswers, Startable, freshWorld, before, after, Gaps, Course}
+use Rattle.courses.specs.Course.{answerOf, answers}
+use Rattle.courses.specs.Demand3.{lineAt, Short, none, first, leadOf, isReset, begins, AllPass, FirstRefused}
+use Rattle.courses.specs.Demand3.{NotBegun, other, nothing, LongAt, Demand3}
 use Rattle.courses.proofs.Alike.{alike-self}
 use Rattle.courses.proofs.Found.{never, not-passed}
 use Rattle.courses.proofs.Commands.{Sim}
@@ -56,15 +58,18 @@ module _ (model : Model) (fits : modelFits model ≡ true) where
   fresh-at : (d : Side) → At d model startBoth (freshWorld model .core .state)
   fresh-at low =
       rw (fresh-core model fits)
-      (unfold freshModule startState in record { same = record { capacity = refl }; alike = alike-self _; moving = refl })
+      (unfold freshModule startState in record
+          { same = record { capacity = refl }; alike = alike-self _; moving = refl })
   fresh-at high =
       rw (fresh-core model fits)
-      (unfold freshModule startState in record { same = record { capacity = refl }; alike = alike-self _; moving = refl })
+      (unfold freshModule startState in record
+          { same = record { capacity = refl }; alike = alike-self _; moving = refl })
 
   fresh-open : Open (freshWorld model)
   unfolding freshWorld
   fresh-open =
-      world-open model (freshWorld model) (stays-allowed .start 0 1 (model .capacity) (model .capacity)) (fresh-at low .same)
+      world-open model (freshWorld model) (stays-allowed .start 0 1 (model .capacity) (model .capacity))
+          (fresh-at low .same)
       (length-replicate (model .capacity) 0) (length-replicate (model .capacity) 0)
 
   fresh-sized : Sized (freshWorld model .core .state)
@@ -117,7 +122,8 @@ order-split i j G f g h =
 
 -- ---- what the check says, by what it finds
 
-check-fits : (model : Model) (script : List ℕ) → modelFits model ≡ true → checkOf model script ≡ verdictOf (found model (linesOf script) startBoth)
+check-fits : (model : Model) (script : List ℕ) → modelFits model ≡ true
+    → checkOf model script ≡ verdictOf (found model (linesOf script) startBoth)
 unfolding checkOf
 check-fits model script e = rw e refl
 
@@ -146,12 +152,14 @@ finds model lines = found model lines startBoth
 
 module _ (model : Model) (lines : List (List ℕ)) where
   -- a long line answers 5 in every course
-  long-answers : (ls : List (List ℕ)) (g : Gaps ls) (w : World) → Open w → (i : ℕ) → tooLong (getD ls i []) ≡ true → answerOf ls g w i ≡ Refused LongLine 0
+  long-answers : (ls : List (List ℕ)) (g : Gaps ls) (w : World) → Open w → (i : ℕ) → tooLong (getD ls i []) ≡ true
+      → answerOf ls g w i ≡ Refused LongLine 0
   unfolding answerOf
   long-answers [] g w o i e = absurd (false≢true e)
   long-answers (l ∷ ls) g w o zero e = line-long (before (g .0) w) (events-open (g .0 .events) w o) (g .0 .room) l e
   long-answers (l ∷ ls) g w o (suc i) e =
-      long-answers ls (g .1) (after (g .0) l w) (line-open (before (g .0) w) (events-open (g .0 .events) w o) (g .0 .room) l) i e
+      long-answers ls (g .1) (after (g .0) l w)
+          (line-open (before (g .0) w) (events-open (g .0 .events) w o) (g .0 .room) l) i e
 
   short-zero : Short lines 0
   unfolding lineAt
@@ -258,7 +266,8 @@ module _ (model : Model) (lines : List (List ℕ)) where
   long-at i p e =
       stop-split model lines startBoth i p LongScriptLine (LongAt model lines (suc i) p) e
       (λ t z q.
-      record { nowhere = q; long = t; begun = λ m y c f h. by m y c f h starts; before = course-before i p LongScriptLine e })
+      record { nowhere = q; long = t; begun = λ m y c f h. by m y c f h starts; before = course-before i p
+          LongScriptLine e })
       (λ t h. absurd (omega arith))
     where
       by : (m q : ℕ) (c : Parsed) → leadOf lines ≡ first m q c → m < suc i
@@ -283,7 +292,8 @@ module _ (model : Model) (lines : List (List ℕ)) where
   unfolding begins
   begins-is n p c u = rw u refl
 
-  refused-apart : (k : Course model lines) (n p : ℕ) (r : Refusal) → answers k n ≡ Refused r p → answers k n ≡ Passed → ⊥
+  refused-apart : (k : Course model lines) (n p : ℕ) (r : Refusal) → answers k n ≡ Refused r p → answers k n ≡ Passed
+      → ⊥
   refused-apart k n p r e f = not-passed r p (sym e ∙ f)
 
   module _ (fits : modelFits model ≡ true) where
@@ -295,7 +305,8 @@ module _ (model : Model) (lines : List (List ℕ)) where
         stop-split model lines startBoth i p r ⊥ e
         (λ t z q.
         let k = course-of model fits low lines in
-        refused-apart k (suc i) 0 LongLine (long-answers lines (k .gaps) (k .start) (course-open model lines k) i t) (f k))
+        refused-apart k (suc i) 0 LongLine (long-answers lines (k .gaps) (k .start) (course-open model lines k) i t)
+            (f k))
         (λ t h.
         let k = refused-first i p r e fits n (apart r LongScriptLine (λ z. omega arith)) in
         refused-apart (k .witness) (suc i) p r (k .refuses) (f (k .witness)))
@@ -427,7 +438,8 @@ module _ (model : Model) (script : List ℕ) where
         check-fits model script h ∙ begun-back model (linesOf script) h n p (a .1)),
   )
 
-  long-number : modelFits model ≡ true → (n p : ℕ) → LongAt model (linesOf script) n p → checkOf model script ≡ No n p LongScriptLine
+  long-number : modelFits model ≡ true → (n p : ℕ) → LongAt model (linesOf script) n p
+      → checkOf model script ≡ No n p LongScriptLine
   long-number fits zero p a = absurd (false≢true (sym (short-zero model (linesOf script)) ∙ a .long))
   long-number fits (suc j) p a =
       check-fits model script fits ∙ (ap verdictOf (long-back model (linesOf script) fits j p a) ∙ rw (a .nowhere) refl)
@@ -443,7 +455,8 @@ module _ (model : Model) (script : List ℕ) where
               (λ a b c d. absurd (seven-eight (sym d)))
               (λ i a b. rw b (long-at model (linesOf script) i p a)),
         ))
-        (λ h f. let w : BadTraces ≡ LongScriptLine = cc in absurd (apart BadTraces LongScriptLine (λ u. omega arith) w))),
+        (λ h f. let w : BadTraces ≡ LongScriptLine = cc in absurd
+            (apart BadTraces LongScriptLine (λ u. omega arith) w))),
     (λ a. long-number (start-fits model (a .0)) n p (a .1)),
   )
 

@@ -85,8 +85,8 @@ pub record AllPass (model : Model) (lines : List (List ℕ)) : Type 0 where
   pub short : (n : ℕ) → Short lines n
   pub passed : (k : Course model lines) (n : ℕ) → answers k n ≡ answer.Passed
 
--- No, at a command and by another number than 7: in some course, which starts from a fresh module, line n is answered by
--- this refusal at this place; whatever the course, the lines up to n pass and n has no refusal at an earlier place.
+-- No, at a command and by another number than 7: in some course, which starts from a fresh module, line n is answered
+-- by this refusal at this place; whatever the course, the lines up to n pass and n has no refusal at an earlier place.
 pub record FirstRefused (model : Model) (lines : List (List ℕ)) (n place : ℕ) (r : Refusal) : Type 0 where
   pub witness : Course model lines
   pub fresh : witness .start ≡ freshWorld model

@@ -27,7 +27,8 @@ unfolding withoutLast parts
 no-lines = refl
 
 -- the first line of a script, and the others
-first-by : (t : Bool) (s : List ℕ) → ltb (span 10 s) (length s) ≡ t → 0 < length s → linesOf s ≡ take (span 10 s) s ∷ linesOf (drop (suc (span 10 s)) s)
+first-by : (t : Bool) (s : List ℕ) → ltb (span 10 s) (length s) ≡ t → 0 < length s
+    → linesOf s ≡ take (span 10 s) s ∷ linesOf (drop (suc (span 10 s)) s)
 first-by true s e h =
     let l = ltb-true (span 10 s) (length s) e in
     let rest = drop (suc (span 10 s)) s in
@@ -56,7 +57,8 @@ pub parts-length : (sep : ℕ) (s : List ℕ) → length (parts sep s) ≤ suc (
 unfolding parts
 parts-length sep [] = omega arith
 parts-length sep (b ∷ bs) = by (eqb b sep) (parts-length sep bs) (head-length b (parts sep bs)) where
-  by : (t : Bool) → length (parts sep bs) ≤ suc (length bs) → length (onHead b (parts sep bs)) ≤ suc (length (parts sep bs))
+  by : (t : Bool) → length (parts sep bs) ≤ suc (length bs)
+      → length (onHead b (parts sep bs)) ≤ suc (length (parts sep bs))
       → length (cond t ([] ∷ parts sep bs) (onHead b (parts sep bs))) ≤ suc (suc (length bs))
   by true h g = omega arith
   by false h g = omega arith

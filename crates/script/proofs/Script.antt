@@ -19,7 +19,8 @@ use Rattle.two_courses.specs.declared.Both.{Both}
 use Rattle.script.specs.declared.Swept.{Swept}
 use Rattle.verdict.specs.declared.Verdict.{Verdict}
 use Rattle.verdict.specs.declared.Verdict.the-variants.{Fine, No}
-use Rattle.script.specs.Check.{Found, fine, noCommand, stop, later, lineAnswer, foundBy, found, verdictOf, linesOf}
+use Rattle.script.specs.Check.{Found, fine, noCommand, stop, later, lineAnswer, foundBy, found, verdictOf}
+use Rattle.script.specs.Check.{linesOf}
 use Rattle.script.specs.Parts.{Sweeps}
 use Rattle.script.proofs.Parts.{lines-first, lines-none}
 
@@ -44,7 +45,8 @@ from-next line (stop i place r) = let z : line + suc i ≡ line + 1 + i = omega 
 
 -- what is left of the script says from here what the whole says from the start
 pub record Left (model : Model) (script : List ℕ) (b : Both) (line a : ℕ) : Type 0 where
-  pub told : verdictOf (found model (linesOf script) startBoth) ≡ numbered line (found model (linesOf (drop a script)) b)
+  pub told : verdictOf (found model (linesOf script) startBoth)
+      ≡ numbered line (found model (linesOf (drop a script)) b)
   pub counted : line ≤ a + 1
 
 -- a part of a script is as long as its ends tell, or shorter

@@ -54,7 +54,8 @@ lineAfter model l b = textsAfter model (textsOf l) (gapOf model b)
 
 -- ---- a list of lines
 
--- what is found in a list of lines: nothing is refused; there is no command at all; or the first refusal, with the index
+-- what is found in a list of lines: nothing is refused; there is no command at all; or the first refusal, with the
+-- index
 -- of its line, counted from 0, and its place
 pub data Found : Type 0 where
   fine : Found

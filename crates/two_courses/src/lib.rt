@@ -1,5 +1,5 @@
-// The two courses that the check follows: what can happen before a line, which commands are refused, and what is carried
-// past the others.
+// The two courses that the check follows: what can happen before a line, which commands are refused, and what is
+// carried past the others.
 ghost use mathlib.Core.Path.{_≡_};
 ghost use Prim.Native.Nat.{_/_};
 ghost use Rattle.settings.specs.Limits.{detectionLimit};
@@ -40,8 +40,8 @@ pub fn model_fits(model: Model) -> bool
 }
 
 // What the check carries from command to command: whether *RST has begun the script, the settings, which every course
-// shares, and the moving parts of two courses: low has no events, high has at each gap the highest frequency that can be
-// measured and then a trigger.
+// shares, and the moving parts of two courses: low has no events, high has at each gap the highest frequency that can
+// be measured and then a trigger.
 pub struct Both {
     pub begun: bool,
     pub settings: Settings,
@@ -111,7 +111,7 @@ pub fn gap(model: Model, b: Both) -> Both
     }
 }
 
-// The refusal of a command of the language: 7 for another than *RST before it, 3 where one of the two courses refuses it.
+// The refusal of a command of the language: 7 before *RST, 3 where one of the two courses refuses it.
 fn kind_refusal(kind: Kind, b: Both) -> Outcome
     ensures { λ r. ⌜ r ≡ kindRefusal kind b ⌝ }
 {
@@ -143,7 +143,7 @@ fn early(begun: bool, refusal: Refusal) -> Outcome
     Outcome::Refused(Refusal::NoReset)
 }
 
-// The refusal of a command that is not empty: 7 before *RST, 1 and 2 by its text, 3 where one of the two courses refuses it.
+// The refusal of a command as it is read: 7 before *RST, 1 and 2 by its text, 3 where one of the two refuses it.
 pub fn text_refusal(p: Parsed, b: Both) -> Outcome
     ensures { λ r. ⌜ r ≡ textRefusal p b ⌝ }
 {

@@ -1,4 +1,5 @@
--- The script check's answer as one number: document 01, "Our console is written in C and hands over a byte range and a number, so the check is
+-- The script check's answer as one number: document 01, "Our console is written in C and hands over a byte range and a
+-- number, so the check is
 -- callable from there too."
 use Prim.Native.Nat.{ℕ, _+_, _-_, _*_, _/_, _%_, _^_, min}
 use Rattle.refusal.specs.Meaning.{meaningOf}

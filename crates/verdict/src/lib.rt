@@ -4,22 +4,27 @@ ghost use Prim.Native.Nat.{min};
 ghost use Rattle.verdict.specs.Number.{lineMost, placeMost, packed, numberOf};
 use refusal::Refusal;
 
-// Fine, or the line, the place and the refusal of the first command that some course refuses.
+// What the check says of a script.
 pub enum Verdict {
+    // No course refuses a command.
     Fine,
+    // The line, the place and the refusal of the first command that some course refuses.
     No(usize, u32, Refusal),
 }
 
-// The largest line and place that the number can tell.
-const LINE_MOST: u64 = 1099511627775;
+// The largest line that the number can tell: it has 40 bits.
+const LINE_MOST: u64 = 0xFF_FFFF_FFFF;
 
-const PLACE_MOST: u32 = 65535;
+// The largest place that the number can tell: it has 16 bits.
+const PLACE_MOST: u32 = 0xFFFF;
 
-// What a line and a place count in the number.
-const LINE_UNIT: u64 = 16777216;
+// What a line counts in the number: the place and the refusal stand below it.
+const LINE_UNIT: u64 = 0x100_0000;
 
-const PLACE_UNIT: u64 = 256;
+// What a place counts in the number: the refusal stands below it.
+const PLACE_UNIT: u64 = 0x100;
 
+// A line as the number tells it.
 fn line_told(line: usize) -> u64
     ensures { λ r. ⌜ r ≡ min line lineMost ⌝ }
 {
@@ -30,6 +35,7 @@ fn line_told(line: usize) -> u64
     n
 }
 
+// A place as the number tells it.
 fn place_told(place: u32) -> u32
     ensures { λ r. ⌜ r ≡ min place placeMost ⌝ }
 {
@@ -39,6 +45,7 @@ fn place_told(place: u32) -> u32
     place
 }
 
+// The line, the place and the refusal's number, one above the other.
 fn pack(line: usize, place: u32, number: u8) -> u64
     ensures { λ r. ⌜ r ≡ packed line place number ⌝ }
 {
