@@ -49,12 +49,12 @@ lines-length [] = unfold withoutLast in omega arith
 lines-length (b ∷ bs) =
     by (eqb b 10) (lines-length bs) (ended-length (parts 10 bs)) (longer-length b (parts 10 bs))
   where
-  by : (t : Bool) → length (linesOf bs) ≤ length bs
-      → length (withoutLast ([] ∷ parts 10 bs)) ≤ suc (length (linesOf bs))
-      → length (withoutLast (onHead b (parts 10 bs))) ≤ suc (length (linesOf bs))
-      → length (withoutLast (cond t ([] ∷ parts 10 bs) (onHead b (parts 10 bs)))) ≤ suc (length bs)
-  by true h f g = omega arith
-  by false h f g = omega arith
+    by : (t : Bool) → length (linesOf bs) ≤ length bs
+        → length (withoutLast ([] ∷ parts 10 bs)) ≤ suc (length (linesOf bs))
+        → length (withoutLast (onHead b (parts 10 bs))) ≤ suc (length (linesOf bs))
+        → length (withoutLast (cond t ([] ∷ parts 10 bs) (onHead b (parts 10 bs)))) ≤ suc (length bs)
+    by true h f g = omega arith
+    by false h f g = omega arith
 
 -- ---- the places of a line's commands
 

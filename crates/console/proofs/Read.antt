@@ -84,8 +84,12 @@ unfolding numberOf
 reads line place r h g =
     let f = numbered r .1 in
     let n = meaningOf r .number in
-    record { in-line = line-read line place n h g f; at-place = place-read line place n h g f; by-number = refusal-read
-        line place n h g f }
+    record {
+      in-line = line-read line place n h g f;
+      at-place = place-read line place n h g f;
+      by-number = refusal-read
+          line place n h g f;
+    }
 
 module _ (v : Verdict) (line place : ℕ) (r : Refusal) where
   told : Fits v → v ≡ No line place r → ReadsAs (numberOf v) line place r

@@ -86,8 +86,12 @@ module _ (model : Model) (b : Both) (s : State) (i : Sim model b s) where
           same = rw (after-unit kind s) (i .same);
           alike = alike-then (after-settings kind s) (alike-after (s .settings) (b .settings) (w .alike) kind);
           between =
-              rw (after-moving kind s, i .same .capacity, alike-moving (s .settings) (b .settings) (w .alike) kind
-              (s .moving) (model .capacity)) (g .1);
+              rw (
+                after-moving kind s,
+                i .same .capacity,
+                alike-moving (s .settings) (b .settings) (w .alike) kind
+                    (s .moving) (model .capacity),
+              ) (g .1);
         },
       )
 
@@ -121,7 +125,7 @@ module _ (model : Model) (b : Both) (s : State) (i : Sim model b s) where
   unfolding kindRefusal
   kind-within kind k =
       by (b .begun) (allowsOf (b .settings) (b .low) kind) (allowsOf (b .settings) (b .high) kind) (resets kind) refl
-          refl refl refl
+      refl refl refl
     where
       by : (a l h r : Bool) → b .begun ≡ a → allowsOf (b .settings) (b .low) kind ≡ l
           → allowsOf (b .settings) (b .high) kind ≡ h → resets kind ≡ r
@@ -226,7 +230,7 @@ place-behind room (t ∷ ts) l r p e d f =
     omega (arith, n, count-step room t l))
     (λ s q.
     let z : Refused s (l .count + 1) ≡ Refused r p = sym
-        (run-refused room ts next s (l .count + 1) (step-refused room t l s e q)) ∙ on in
+    (run-refused room ts next s (l .count + 1) (step-refused room t l s e q)) ∙ on in
     let y : l .count + 1 ≡ p = cc in
     omega arith)
 
@@ -238,7 +242,7 @@ step-follows : (model : Model) (room : ℕ) (t : List ℕ) (l : Line) (b : Both)
 unfolding stepOf afterOf
 step-follows model room t l b i e d =
     parsed-follows model b (l .state) i (room - length (l .out)) (waits (l .out)) (parsedOf t) (l .one) (l .two)
-        (parsed-sane t) e d
+    (parsed-sane t) e d
 
 pub run-passed : (model : Model) (room : ℕ) (ts : List (List ℕ)) (l : Line) (b : Both) → Sim model b (l .state)
     → l .answer ≡ Passed
@@ -251,13 +255,13 @@ run-passed model room (t ∷ ts) l b i e d f =
     let rest = run-rest room t ts l d in
     let q =
     answer-passed (textRefusal (parsedOf t) b) (l .count + 1)
-        (textsAnswer model (l .count + 1 + 1) ts (textAfter model (parsedOf t) b))
+    (textsAnswer model (l .count + 1 + 1) ts (textAfter model (parsedOf t) b))
     (unfold textsAnswer in f)
     in
     let k = step-follows model room t l b i (q .0) (rest .0) in
     let n =
     run-passed model room ts next (textAfter model (parsedOf t) b) (k .1) (step-passed room t l e (k .0))
-        (rw (rest .1) at d)
+    (rw (rest .1) at d)
     (rw (count-step room t l) (q .1))
     in
     rw (rest .1) n
@@ -272,11 +276,11 @@ run-earlier model room (t ∷ ts) l b r s p q i e d f g =
     let next = stepOf room t l in
     let rest = run-rest room t ts l d in
     answer-split (textRefusal (parsedOf t) b) (l .count + 1)
-        (textsAnswer model (l .count + 1 + 1) ts (textAfter model (parsedOf t) b)) p r (p ≤ q)
+    (textsAnswer model (l .count + 1 + 1) ts (textAfter model (parsedOf t) b)) p r (p ≤ q)
     (unfold textsAnswer in f)
     (λ z h.
     let k = step-follows model room t l b i z (rest .0) in
     run-earlier model room ts next (textAfter model (parsedOf t) b) r s p q (k .1) (step-passed room t l e (k .0))
-        (rw (rest .1) at d)
+    (rw (rest .1) at d)
     (rw (count-step room t l) h) (rw (rest .1) at g))
     (λ z w. omega (arith, w, place-behind room (t ∷ ts) l s q e d g))

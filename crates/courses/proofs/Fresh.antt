@@ -81,8 +81,11 @@ module _ (model : Model) (fits : modelFits model ≡ true) where
   fresh-core = rw (eq-eqb (model .capacity) (model .capacity) refl, fits) refl
 
   small : model .capacity < 2 ^ 32
-  small = omega (arith, leb-true (model .capacity) 16383
-      (and-eq-true-iff (leb 1 (model .capacity)) (leb (model .capacity) 16383) .0 fits .1))
+  small = omega (
+    arith,
+    leb-true (model .capacity) 16383
+        (and-eq-true-iff (leb 1 (model .capacity)) (leb (model .capacity) 16383) .0 fits .1),
+  )
 
   module-fits : ModuleFits (freshModule (freshUnit model))
   unfolding freshModule startState startSettings table

@@ -95,7 +95,7 @@ module _ (model : Model) (line : ℕ) (Goal : Type 0) where
   early-refused place (t ∷ ts) b r p k e f g =
       let x = parsedOf t in
       let split = answer-split (textRefusal x b) place (textsAnswer model (place + 1) ts (textAfter model x b)) p r Goal
-          e in
+      e in
       lead-split model b k x line place (leadIn line (place + 1) ts) Goal
       (λ s.
       split

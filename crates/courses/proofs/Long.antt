@@ -147,4 +147,4 @@ pub stop-split : (model : Model) (ls : List (List ℕ)) (b : Both) (i p : ℕ) (
     → (tooLong (getD ls i []) ≡ false → numberOf r ≤ 7 → Goal) → Goal
 stop-split model ls b i p r Goal e f g =
     refused-split model (getD ls i []) (bothAt model ls b i) r p Goal (stop-answer model ls b i p r e) f
-        (λ t x h. g t h)
+    (λ t x h. g t h)

@@ -46,7 +46,7 @@ at-gap high model b w o i =
     let m = measured-at x s (i .alike) (open-kept w o) (b .high) (i .moving) in
     let e = event-is w o (Measured (highest x)) in
     let p : (v .core .state .unit ≡ s .unit) × Alike (v .core .state .settings) x
-        × (v .core .state .moving ≡ measuredHigh x (b .high)) =
+    × (v .core .state .moving ≡ measuredHigh x (b .high)) =
     rw e (unfold eventOf in m)
     in
     let c : OfModel model (v .core .state .unit) = rw (p .0) (i .same) in
@@ -61,7 +61,7 @@ module _ (model : Model) (b : Both) (l : List ℕ) where
   abbrev Ran : Side → (World → ℕ → Type 0) → Type 0
   Ran d Then =
       (w : World) → Open w → At d model (gapOf model b) (w .core .state) → (room : ℕ) → crowded room l w ≡ false
-          → Then w room
+      → Then w room
 
   -- the line leaves the course where the check goes, or is refused in it
   line-at : (d : Side) → lineAnswer model l b ≡ Passed

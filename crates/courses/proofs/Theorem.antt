@@ -59,17 +59,17 @@ module _ (model : Model) (fits : modelFits model ≡ true) where
   fresh-at low =
       rw (fresh-core model fits)
       (unfold freshModule startState in record
-          { same = record { capacity = refl }; alike = alike-self _; moving = refl })
+      { same = record { capacity = refl }; alike = alike-self _; moving = refl })
   fresh-at high =
       rw (fresh-core model fits)
       (unfold freshModule startState in record
-          { same = record { capacity = refl }; alike = alike-self _; moving = refl })
+      { same = record { capacity = refl }; alike = alike-self _; moving = refl })
 
   fresh-open : Open (freshWorld model)
   unfolding freshWorld
   fresh-open =
       world-open model (freshWorld model) (stays-allowed .start 0 1 (model .capacity) (model .capacity))
-          (fresh-at low .same)
+      (fresh-at low .same)
       (length-replicate (model .capacity) 0) (length-replicate (model .capacity) 0)
 
   fresh-sized : Sized (freshWorld model .core .state)
@@ -159,7 +159,7 @@ module _ (model : Model) (lines : List (List ℕ)) where
   long-answers (l ∷ ls) g w o zero e = line-long (before (g .0) w) (events-open (g .0 .events) w o) (g .0 .room) l e
   long-answers (l ∷ ls) g w o (suc i) e =
       long-answers ls (g .1) (after (g .0) l w)
-          (line-open (before (g .0) w) (events-open (g .0 .events) w o) (g .0 .room) l) i e
+      (line-open (before (g .0) w) (events-open (g .0 .events) w o) (g .0 .room) l) i e
 
   short-zero : Short lines 0
   unfolding lineAt
@@ -266,8 +266,13 @@ module _ (model : Model) (lines : List (List ℕ)) where
   long-at i p e =
       stop-split model lines startBoth i p LongScriptLine (LongAt model lines (suc i) p) e
       (λ t z q.
-      record { nowhere = q; long = t; begun = λ m y c f h. by m y c f h starts; before = course-before i p
-          LongScriptLine e })
+      record {
+        nowhere = q;
+        long = t;
+        begun = λ m y c f h. by m y c f h starts;
+        before = course-before i p
+            LongScriptLine e;
+      })
       (λ t h. absurd (omega arith))
     where
       by : (m q : ℕ) (c : Parsed) → leadOf lines ≡ first m q c → m < suc i
@@ -306,7 +311,7 @@ module _ (model : Model) (lines : List (List ℕ)) where
         (λ t z q.
         let k = course-of model fits low lines in
         refused-apart k (suc i) 0 LongLine (long-answers lines (k .gaps) (k .start) (course-open model lines k) i t)
-            (f k))
+        (f k))
         (λ t h.
         let k = refused-first i p r e fits n (apart r LongScriptLine (λ z. omega arith)) in
         refused-apart (k .witness) (suc i) p r (k .refuses) (f (k .witness)))
@@ -456,7 +461,7 @@ module _ (model : Model) (script : List ℕ) where
               (λ i a b. rw b (long-at model (linesOf script) i p a)),
         ))
         (λ h f. let w : BadTraces ≡ LongScriptLine = cc in absurd
-            (apart BadTraces LongScriptLine (λ u. omega arith) w))),
+        (apart BadTraces LongScriptLine (λ u. omega arith) w))),
     (λ a. long-number (start-fits model (a .0)) n p (a .1)),
   )
 

@@ -84,7 +84,7 @@ side-allows : (d : Side) (b : Both) (kind : Kind) → kindRefusal kind b ≡ out
 unfolding kindRefusal
 side-allows d b kind =
     by (b .begun) (allowsOf (b .settings) (b .low) kind) (allowsOf (b .settings) (b .high) kind) (resets kind) refl refl
-        refl
+    refl
   where
     by : (a l h r : Bool) → allowsOf (b .settings) (b .low) kind ≡ l → allowsOf (b .settings) (b .high) kind ≡ h
         → resets kind ≡ r
@@ -130,14 +130,14 @@ module _ (d : Side) (model : Model) (b : Both) (s : State) (i : At d model b s) 
   at-parsed room waiting (parsed.Refused r) one two e f = not-done _ e
   at-parsed room waiting (parsed.Taken c) one two e f =
       allowed-done (λ t. (t .outcome ≡ outcome.Done) × At d model (kindAfter model (c .kind) b) (t .state)) room waiting
-          (c .kind) s one two
+      (c .kind) s one two
       (state-allows (c .kind) ∙ side-allows d b (c .kind) e) f (unfold doneBy in (refl, at-after (c .kind)))
 
 -- what the check refuses, but for 7, one of the two refuses
 abbrev Refuses : Model → Both → Parsed → Refusal → Side → Type 0
 Refuses model b p r d =
     (s : State) → At d model b s → (room : ℕ) (waiting : Bool) (one two : List ℕ)
-        → commandOf room waiting p s one two .outcome ≡ outcome.Refused r
+    → commandOf room waiting p s one two .outcome ≡ outcome.Refused r
 
 not-allowed : (model : Model) (b : Both) (c : Kind) (d : Side) → allowsOf (b .settings) (side d b) c ≡ false
     → Refuses model b (parsed.Taken (record { kind = c })) NotAllowed d
@@ -158,7 +158,7 @@ parsed-refuses model b (parsed.Refused q) r e n = (low, by (b .begun) (refused-s
   by false z s i room waiting one two = absurd (n (sym z))
 parsed-refuses model b (parsed.Taken c) r e n =
     by (b .begun) (allowsOf (b .settings) (b .low) (c .kind)) (allowsOf (b .settings) (b .high) (c .kind))
-        (resets (c .kind)) refl refl
+    (resets (c .kind)) refl refl
     (unfold kindRefusal in e)
   where
     by : (a l h t : Bool) → allowsOf (b .settings) (b .low) (c .kind) ≡ l
@@ -193,15 +193,15 @@ at-run d model room [] l b p i c e = unfold runAll in i
 at-run d model room (t ∷ ts) l b p i c e =
     let rest = run-rest room t ts l c in
     let q = answer-passed (textRefusal (parsedOf t) b) p (textsAnswer model (p + 1) ts (textAfter model (parsedOf t) b))
-        (unfold textsAnswer in e) in
+    (unfold textsAnswer in e) in
     let k = at-step d model room t l b i (q .0) (rest .0) in
     rw (rest .1) (at-run d model room ts (stepOf room t l) (textAfter model (parsedOf t) b) (p + 1) (k .1)
-        (rw (rest .1) at c) (q .1))
+    (rw (rest .1) at c) (q .1))
 
 abbrev RunRefuses : Model → Both → ℕ → List (List ℕ) → Refusal → ℕ → Side → Type 0
 RunRefuses model b n ts r p d =
     (room : ℕ) (l : Line) → l .count ≡ n → l .answer ≡ Passed → At d model b (l .state)
-        → runAll room ts l .dropped ≡ false
+    → runAll room ts l .dropped ≡ false
     → runAll room ts l .answer ≡ Refused r p
 
 pub run-refuses : (model : Model) (b : Both) (n : ℕ) (ts : List (List ℕ)) (r : Refusal) (p : ℕ)
@@ -210,7 +210,7 @@ pub run-refuses : (model : Model) (b : Both) (n : ℕ) (ts : List (List ℕ)) (r
 run-refuses model b n [] r p e z = not-passed r p (sym (unfold textsAnswer in e))
 run-refuses model b n (t ∷ ts) r p e z =
     answer-split (textRefusal (parsedOf t) b) (n + 1)
-        (textsAnswer model (n + 1 + 1) ts (textAfter model (parsedOf t) b)) p r
+    (textsAnswer model (n + 1 + 1) ts (textAfter model (parsedOf t) b)) p r
     ((d : Side) × RunRefuses model b n (t ∷ ts) r p d) (unfold textsAnswer in e)
     (λ f g.
     let w = run-refuses model (textAfter model (parsedOf t) b) (n + 1) ts r p g z in (
@@ -220,7 +220,7 @@ run-refuses model b n (t ∷ ts) r p e z =
           let k = at-step (w .0) model room t l b i f (rest .0) in
           rw (rest .1)
           ((w .1) room (stepOf room t l) (count-step room t l ∙ ap (λ (x : ℕ). x + 1) m) (step-passed room t l a (k .0))
-              (k .1) (rw (rest .1) at c)),
+          (k .1) (rw (rest .1) at c)),
     ))
     (λ f g.
     let w = parsed-refuses model b (parsedOf t) r f z in (
@@ -228,9 +228,9 @@ run-refuses model b n (t ∷ ts) r p e z =
       λ room l m a i c.
           let rest = run-rest room t ts l c in
           let k = step-refused room t l r a
-              ((w .1) (l .state) i (room - length (l .out)) (waits (l .out)) (l .one) (l .two)) in
+          ((w .1) (l .state) i (room - length (l .out)) (waits (l .out)) (l .one) (l .two)) in
           rw (rest .1) (run-refused room ts (stepOf room t l) r p
-              (k ∙ ap (λ (x : ℕ). Refused r x) (ap (λ (x : ℕ). x + 1) m ∙ g))),
+          (k ∙ ap (λ (x : ℕ). Refused r x) (ap (λ (x : ℕ). x + 1) m ∙ g))),
     ))
 
 -- ---- its events
