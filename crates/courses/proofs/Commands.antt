@@ -50,6 +50,25 @@ pub record Sim (model : Model) (b : Both) (s : State) : Type 0 where
 abbrev Follows : Model → Both → Effect → Type 0
 Follows model b e = (e .outcome ≡ outcome.Done) × Sim model b (e .state)
 
+-- what the check passes: after *RST what both of its courses allow, before it *RST
+pub kind-done : (b : Both) (kind : Kind) (Goal : Type 0) → kindRefusal kind b ≡ outcome.Done
+    → (b .begun ≡ true → allowsOf (b .settings) (b .low) kind ≡ true → allowsOf (b .settings) (b .high) kind ≡ true
+    → Goal)
+    → (resets kind ≡ true → Goal) → Goal
+unfolding kindRefusal
+kind-done b kind Goal =
+    by (b .begun) (allowsOf (b .settings) (b .low) kind) (allowsOf (b .settings) (b .high) kind) (resets kind)
+  where
+    by : (a l h r : Bool)
+        → cond a (cond (l && h) outcome.Done (outcome.Refused NotAllowed))
+        (cond r outcome.Done (outcome.Refused NoReset)) ≡ outcome.Done
+        → (a ≡ true → l ≡ true → h ≡ true → Goal) → (r ≡ true → Goal) → Goal
+    by true true true r e f g = f refl refl refl
+    by true true false r e f g = not-done NotAllowed e
+    by true false h r e f g = not-done NotAllowed e
+    by false l h true e f g = g refl
+    by false l h false e f g = not-done NoReset e
+
 -- a command that the state allows is done, or refused by 4
 pub allowed-done : (P : Effect → Type 0) (room : ℕ) (waiting : Bool) (kind : Kind) (s : State) (one two : List ℕ)
     → allowsOf (s .settings) (s .moving) kind ≡ true → drops (performed room waiting kind s one two .outcome) ≡ false
@@ -122,21 +141,8 @@ module _ (model : Model) (b : Both) (s : State) (i : Sim model b s) where
 
   -- either way
   kind-within : (kind : Kind) → Sane kind → kindRefusal kind b ≡ outcome.Done → Lands model b s kind
-  unfolding kindRefusal
-  kind-within kind k =
-      by (b .begun) (allowsOf (b .settings) (b .low) kind) (allowsOf (b .settings) (b .high) kind) (resets kind) refl
-      refl refl refl
-    where
-      by : (a l h r : Bool) → b .begun ≡ a → allowsOf (b .settings) (b .low) kind ≡ l
-          → allowsOf (b .settings) (b .high) kind ≡ h → resets kind ≡ r
-          → cond a (cond (l && h) outcome.Done (outcome.Refused NotAllowed))
-          (cond r outcome.Done (outcome.Refused NoReset)) ≡ outcome.Done
-          → Lands model b s kind
-      by true true true r p q u v e = begun-within kind k p q u
-      by true true false r p q u v e = not-done NotAllowed e
-      by true false h r p q u v e = not-done NotAllowed e
-      by false l h true p q u v e = first-within kind v
-      by false l h false p q u v e = not-done NoReset e
+  kind-within kind k e =
+      kind-done b kind (Lands model b s kind) e (λ p q u. begun-within kind k p q u) (λ v. first-within kind v)
 
   kind-follows : (room : ℕ) (waiting : Bool) (kind : Kind) (one two : List ℕ) → Sane kind
       → kindRefusal kind b ≡ outcome.Done

@@ -1,7 +1,7 @@
 -- How a script begins, by what the check finds: with *RST, with another command, or with none.
 use Prim.Native.Nat.{ℕ, suc, _+_, _≤_}
 use native.Mathlib.Omega.{arith}
-use mathlib.Core.Bool.{Bool, true, false, cond, _||_}
+use mathlib.Core.Bool.{Bool, true, false, _||_}
 use mathlib.Core.Path.{_≡_, refl, sym, ap, _∙_}
 use mathlib.Core.Logic.{_≢_}
 use mathlib.Core.List.{List, [], _∷_}
@@ -26,17 +26,20 @@ use Rattle.courses.proofs.Long.{numberOf, begun-texts, begun-number, ga
 
 -- ---- one command before *RST: it is empty, *RST, or another
 
+-- it is empty: the check goes on as it was
 record Skipped (model : Model) (b : Both) (p : Parsed) (line place : ℕ) (later : Lead) : Type 0 where
   outcome : textRefusal p b ≡ outcome.Done
   after : textAfter model p b ≡ b
   lead : leadBy p line place later ≡ later
 
+-- it is *RST
 record Begun (model : Model) (b : Both) (p : Parsed) (line place : ℕ) (later : Lead) : Type 0 where
   outcome : textRefusal p b ≡ outcome.Done
   after : textAfter model p b .begun ≡ true
   lead : leadBy p line place later ≡ first line place p
   reset : isReset p ≡ true
 
+-- it is another: 7
 record Unled (b : Both) (p : Parsed) (line place : ℕ) (later : Lead) : Type 0 where
   outcome : textRefusal p b ≡ outcome.Refused NoReset
   lead : leadBy p line place later ≡ first line place p

@@ -12,7 +12,8 @@ use lib.Pow.{pow-lt}
 use borrow.Author.Tests.{ltb-true}
 use Rattle.refusal.specs.Meaning.{meaningOf}
 use Rattle.refusal.specs.declared.Refusal.{Refusal}
-use Rattle.refusal.specs.declared.Refusal.the-variants.{Malformed, OutOfRange, NotAllowed, NoRoom, LongLine, BadEvent, NoReset, LongScriptLine, BadTraces, BadStart, BadState}
+use Rattle.refusal.specs.declared.Refusal.the-variants.{Malformed, OutOfRange, NotAllowed, NoRoom, LongLine, BadEvent}
+use Rattle.refusal.specs.declared.Refusal.the-variants.{NoReset, LongScriptLine, BadTraces, BadStart, BadState}
 use Rattle.settings.specs.Table.{entries, table, fmod, oflt, startSettings, behind, valueOf}
 use Rattle.settings.specs.Frequency.{crossingOf, crosses, lifts}
 use Rattle.settings.specs.declared.Settings.{Settings}
@@ -20,7 +21,8 @@ use Rattle.storage.specs.Storage.{bit6, triggerStores, setsRunning, triggeredOf
 use Rattle.storage.specs.declared.Storage.{Storage}
 use Rattle.storage.specs.declared.Sampling.{Sampling}
 use Rattle.status.specs.Bits.{withoutBit, withBit}
-use Rattle.status.specs.Status.{registerOf, withRegister, clearedOf, bitCleared, withStandard, withLia, enableOf, withEnableByte, withEnable, withEnableBit}
+use Rattle.status.specs.Status.{registerOf, withRegister, clearedOf, bitCleared, withStandard, withLia, enableOf}
+use Rattle.status.specs.Status.{withEnableByte, withEnable, withEnableBit}
 use Rattle.status.specs.declared.Registers.{Registers}
 use Rattle.status.specs.declared.Enables.{Enables}
 use Rattle.name.specs.declared.Register.{Register}
@@ -35,7 +37,8 @@ use Rattle.command.specs.declared.Kind.the-variants.{Set, Query, Act}
 use Rattle.state.specs.State.{withRegisters, samplingOf, detectionNow, crossedFrom, markedBy}
 use Rattle.state.specs.Storing.{triggerOf, sampledBy}
 use Rattle.state.specs.declared.State.{State}
-use Rattle.change.specs.Change.{withPair, setIn, restoredBy, settingsAfter, storageBy, storageAfter, registersAsked, registersBy, registersAfter, enablesSet, enablesAfter, changedBy, stateAfter}
+use Rattle.change.specs.Change.{withPair, setIn, restoredBy, settingsAfter, storageBy, storageAfter, registersAsked}
+use Rattle.change.specs.Change.{registersBy, registersAfter, enablesSet, enablesAfter, changedBy, stateAfter}
 use Rattle.change.specs.Change as change
 use Rattle.event.specs.Event.{takesFrequency, withExternal, notTaken, measuredBy, sampledIn, eventOf}
 use Rattle.event.specs.declared.Event.the-variants as event

@@ -39,6 +39,7 @@ unfolding rank
 low-emptied capacity =
     record { inside = omega arith; fewer = omega arith; full = λ e. absurd (omega arith); below = omega arith }
 
+-- a storage by its phase, how much it holds and its next slot
 abbrev at : Phase → ℕ → ℕ → Storage
 at p h n = record { phase = p; held = h; next = n }
 

@@ -1,5 +1,5 @@
 -- Demand 3, proved.
-use Prim.Native.Nat.{ℕ, zero, suc, _+_, _≤_, _<_}
+use Prim.Native.Nat.{ℕ, zero, suc, _≤_, _<_}
 use native.Mathlib.Omega.{arith}
 use mathlib.Core.Bool.{Bool, true, false, false≢true}
 use mathlib.Core.Path.{_≡_, refl, sym, ap, _∙_}
@@ -131,6 +131,7 @@ check-unfit : (model : Model) (script : List ℕ) → modelFits model ≡ false 
 unfolding checkOf
 check-unfit model script e = rw e refl
 
+-- the verdict tells what is found, and a line by its number
 verdict-fine : (v : Found) → verdictOf v ≡ Fine → v ≡ fine
 verdict-fine fine e = refl
 verdict-fine noCommand e = never (cc)
@@ -220,6 +221,7 @@ module _ (model : Model) (lines : List (List ℕ)) where
 
   -- ---- each verdict
 
+  -- how the script begins
   starts : Begins 1 (finds model lines) (leadOf lines)
   starts = begins-found model 1 lines startBoth refl
 

@@ -47,7 +47,8 @@ use Rattle.courses.proofs.Alike.{alike-sampling, after-settings, after-
 use Rattle.courses.proofs.Alike.{crossed-moving}
 use Rattle.courses.proofs.Gap.{harm-kept}
 use Rattle.courses.proofs.Found.{not-passed, not-done, answer-passed, answer-split}
-use Rattle.courses.proofs.Commands.{allowed-done, effectIn, run-rest, step-passed, step-refused, run-refused}
+use Rattle.courses.proofs.Commands.{kind-done, allowed-done, effectIn, run-rest, step-passed, step-refused}
+use Rattle.courses.proofs.Commands.{run-refused}
 use Rattle.courses.proofs.Commands.{count-step}
 
 -- which of the two
@@ -81,21 +82,9 @@ both-sides high b kind l h = h
 -- what the check passes, that course passes
 side-allows : (d : Side) (b : Both) (kind : Kind) → kindRefusal kind b ≡ outcome.Done
     → allowsOf (b .settings) (side d b) kind ≡ true
-unfolding kindRefusal
-side-allows d b kind =
-    by (b .begun) (allowsOf (b .settings) (b .low) kind) (allowsOf (b .settings) (b .high) kind) (resets kind) refl refl
-    refl
-  where
-    by : (a l h r : Bool) → allowsOf (b .settings) (b .low) kind ≡ l → allowsOf (b .settings) (b .high) kind ≡ h
-        → resets kind ≡ r
-        → cond a (cond (l && h) outcome.Done (outcome.Refused NotAllowed))
-        (cond r outcome.Done (outcome.Refused NoReset)) ≡ outcome.Done
-        → allowsOf (b .settings) (side d b) kind ≡ true
-    by true true true r p q u e = both-sides d b kind p q
-    by true true false r p q u e = not-done NotAllowed e
-    by true false h r p q u e = not-done NotAllowed e
-    by false l h true p q u e = reset-allows kind (b .settings) (side d b) u
-    by false l h false p q u e = not-done NoReset e
+side-allows d b kind e =
+    kind-done b kind (allowsOf (b .settings) (side d b) kind ≡ true) e (λ p l h. both-sides d b kind l h)
+    (λ u. reset-allows kind (b .settings) (side d b) u)
 
 side-after : (d : Side) (model : Model) (kind : Kind) (b : Both)
     → side d (kindAfter model kind b) ≡ movingAfter kind (b .settings) (side d b) (model .capacity)
