@@ -8,7 +8,7 @@ use lib.Dec.{eqb}
 use lib.ListN.{length}
 use borrow.Author.Tests.{ltb-false}
 use Rattle.divide.specs.Divide.{onHead, parts}
-use Rattle.refusal.specs.declared.Refusal.the-variants.{NoReset, LongScriptLine, BadTraces}
+use Rattle.refusal.specs.declared.Refusal.the-variants.{LongScriptLine, BadTraces}
 use Rattle.refusal.specs.declared.Outcome.{Outcome}
 use Rattle.refusal.specs.declared.Outcome.the-variants as outcome
 use Rattle.clean.specs.Clean.{cleaned}
@@ -17,9 +17,12 @@ use Rattle.clean.specs.Texts.{semicolon, textsOf}
 use Rattle.refusal.specs.declared.Answer.{Answer}
 use Rattle.refusal.specs.declared.Answer.the-variants.{Passed, Refused}
 use Rattle.clean.proofs.Bound.{cleaned-length}
+use Rattle.two_courses.specs.Model.{modelFits}
+use Rattle.two_courses.specs.declared.Model.{Model}
 use Rattle.two_courses.specs.Courses.{gapOf, textRefusal, textAfter, startBoth}
 use Rattle.two_courses.specs.declared.Both.{Both}
-use Rattle.script.specs.Check.{answerAt, textsAnswer, textsAfter, tooLong, verdictOf, linesVerdict, withoutLast, linesOf, capacityFits, checkOf}
+use Rattle.script.specs.Check.{answerAt, textsAnswer, tooLong, lineAnswer, lineAfter, withoutLast, linesOf, checkOf}
+use Rattle.script.specs.Check.{Found, fine, noCommand, stop, foundBy, found, verdictOf}
 use Rattle.script.proofs.Parts.{parts-length}
 use Rattle.verdict.specs.declared.Verdict.{Verdict}
 use Rattle.verdict.specs.declared.Verdict.the-variants.{Fine, No}
@@ -43,70 +46,88 @@ longer-length b (p ∷ q ∷ ps) = omega arith
 lines-length : (s : List ℕ) → length (linesOf s) ≤ length s
 unfolding parts
 lines-length [] = unfold withoutLast in omega arith
-lines-length (b ∷ bs) = by (eqb b 10) (lines-length bs) (ended-length (parts 10 bs)) (longer-length b (parts 10 bs)) where
-  by : (t : Bool) → length (linesOf bs) ≤ length bs → length (withoutLast ([] ∷ parts 10 bs)) ≤ suc (length (linesOf bs))
-      → length (withoutLast (onHead b (parts 10 bs))) ≤ suc (length (linesOf bs))
-      → length (withoutLast (cond t ([] ∷ parts 10 bs) (onHead b (parts 10 bs)))) ≤ suc (length bs)
-  by true h f g = omega arith
-  by false h f g = omega arith
+lines-length (b ∷ bs) =
+    by (eqb b 10) (lines-length bs) (ended-length (parts 10 bs)) (longer-length b (parts 10 bs))
+  where
+    by : (t : Bool) → length (linesOf bs) ≤ length bs
+        → length (withoutLast ([] ∷ parts 10 bs)) ≤ suc (length (linesOf bs))
+        → length (withoutLast (onHead b (parts 10 bs))) ≤ suc (length (linesOf bs))
+        → length (withoutLast (cond t ([] ∷ parts 10 bs) (onHead b (parts 10 bs)))) ≤ suc (length bs)
+    by true h f g = omega arith
+    by false h f g = omega arith
 
 -- ---- the places of a line's commands
 
+-- an answer whose place can be told
 abbrev PlaceFits : Answer → Type 0
 PlaceFits Passed = Unit {0}
 PlaceFits (Refused r place) = place ≤ placeMost
 
-answer-fits : (o : Outcome) (place : ℕ) (later : Answer) → place ≤ placeMost → PlaceFits later → PlaceFits (answerAt o place later)
+answer-fits : (o : Outcome) (place : ℕ) (later : Answer) → place ≤ placeMost → PlaceFits later
+    → PlaceFits (answerAt o place later)
 unfolding answerAt
 answer-fits outcome.Done place later h f = f
 answer-fits (outcome.Refused r) place later h f = h
 
-texts-fit : (capacity place : ℕ) (ts : List (List ℕ)) (b : Both) → place + length ts ≤ suc placeMost → PlaceFits (textsAnswer capacity place ts b)
+texts-fit : (model : Model) (place : ℕ) (ts : List (List ℕ)) (b : Both) → place + length ts ≤ suc placeMost
+    → PlaceFits (textsAnswer model place ts b)
 unfolding textsAnswer
-texts-fit capacity place [] b h = tt
-texts-fit capacity place (t ∷ ts) b h =
-    answer-fits (textRefusal (parsedOf t) b) place (textsAnswer capacity (place + 1) ts (textAfter capacity (parsedOf t) b)) (omega arith)
-    (texts-fit capacity (place + 1) ts (textAfter capacity (parsedOf t) b) (omega arith))
+texts-fit model place [] b h = tt
+texts-fit model place (t ∷ ts) b h =
+    answer-fits (textRefusal (parsedOf t) b) place _ (omega arith)
+    (texts-fit model (place + 1) ts (textAfter model (parsedOf t) b) (omega arith))
 
 -- a line of at most 256 bytes has at most 257 commands
-line-fits : (capacity : ℕ) (l : List ℕ) (b : Both) → tooLong l ≡ false → PlaceFits (textsAnswer capacity 1 (textsOf l) b)
-line-fits capacity l b e =
-    let k = ltb-false 256 (length l) e in
-    texts-fit capacity 1 (textsOf l) b (omega (arith, parts-length semicolon (cleaned l), cleaned-length l))
+line-fits : (model : Model) (l : List ℕ) (b : Both) → PlaceFits (lineAnswer model l b)
+unfolding lineAnswer
+line-fits model l b = by (tooLong l) refl where
+  by : (t : Bool) → tooLong l ≡ t
+      → PlaceFits (cond t (Refused LongScriptLine 0) (textsAnswer model 1 (textsOf l) (gapOf model b)))
+  by true e = omega arith
+  by false e =
+      texts-fit model 1 (textsOf l) (gapOf model b)
+      (omega (arith, parts-length semicolon (cleaned l), cleaned-length l, ltb-false 256 (length l) e))
 
 -- ---- the lines of a script
+
+-- what is found in so few lines, at a place that can be told
+abbrev FoundFits : ℕ → Found → Type 0
+FoundFits lines fine = Unit {0}
+FoundFits lines noCommand = Unit {0}
+FoundFits lines (stop i place r) = (i < lines) × (place ≤ placeMost)
+
+by-fits : (lines : ℕ) (a : Answer) (behind : Found) → PlaceFits a → FoundFits lines behind
+    → FoundFits (suc lines) (foundBy a behind)
+unfolding foundBy
+by-fits lines Passed fine f g = tt
+by-fits lines Passed noCommand f g = tt
+by-fits lines Passed (stop i place r) f g = (omega (arith, g .0), g .1)
+by-fits lines (Refused r place) behind f g = (omega arith, f)
+
+lines-fit : (model : Model) (ls : List (List ℕ)) (b : Both) → FoundFits (length ls) (found model ls b)
+unfolding found
+lines-fit model [] b = by (b .begun) where
+  by : (t : Bool) → FoundFits 0 (cond t fine noCommand)
+  by true = tt
+  by false = tt
+lines-fit model (l ∷ ls) b =
+    by-fits (length ls) (lineAnswer model l b) _ (line-fits model l b) (lines-fit model ls (lineAfter model l b))
 
 -- a verdict whose line and place can be told
 abbrev pub Fits : Verdict → Type 0
 Fits Fine = Unit {0}
 Fits (No line place r) = (line ≤ lineMost) × (place ≤ placeMost)
 
-verdict-fits : (a : Answer) (line : ℕ) (later : Verdict) → line ≤ lineMost → PlaceFits a → Fits later → Fits (verdictOf a line later)
-unfolding verdictOf
-verdict-fits Passed line later h f g = g
-verdict-fits (Refused r place) line later h f g = (h, f)
+verdict-fits : (lines : ℕ) (v : Found) → lines ≤ lineMost → FoundFits lines v → Fits (verdictOf v)
+verdict-fits lines fine h f = tt
+verdict-fits lines noCommand h f = omega arith
+verdict-fits lines (stop i place r) h f = (omega (arith, f .0), f .1)
 
-lines-fit : (capacity line : ℕ) (ls : List (List ℕ)) (b : Both) → line + length ls ≤ suc lineMost → Fits (linesVerdict capacity line ls b)
-unfolding linesVerdict
-lines-fit capacity line [] b h = by (b .begun) where
-  by : (t : Bool) → Fits (cond t Fine (No 1 1 NoReset))
-  by true = tt
-  by false = omega arith
-lines-fit capacity line (l ∷ ls) b h =
-    by (tooLong l) refl (lines-fit capacity (line + 1) ls (textsAfter capacity (textsOf l) (gapOf capacity b)) (omega arith))
-  where
-    later : Verdict
-    later = linesVerdict capacity (line + 1) ls (textsAfter capacity (textsOf l) (gapOf capacity b))
-
-    by : (t : Bool) → tooLong l ≡ t → Fits later
-        → Fits (cond t (No line 0 LongScriptLine) (verdictOf (textsAnswer capacity 1 (textsOf l) (gapOf capacity b)) line later))
-    by true e f = omega arith
-    by false e f =
-        verdict-fits (textsAnswer capacity 1 (textsOf l) (gapOf capacity b)) line later (omega arith) (line-fits capacity l (gapOf capacity b) e) f
-
-pub check-fits : (capacity : ℕ) (script : List ℕ) → length script < 2 ^ 40 → Fits (checkOf capacity script)
+pub check-fits : (model : Model) (script : List ℕ) → length script < 2 ^ 40 → Fits (checkOf model script)
 unfolding checkOf
-check-fits capacity script h = by (capacityFits capacity) where
-  by : (t : Bool) → Fits (cond t (linesVerdict capacity 1 (linesOf script) startBoth) (No 0 0 BadTraces))
-  by true = lines-fit capacity 1 (linesOf script) startBoth (omega (arith, lines-length script))
+check-fits model script h = by (modelFits model) where
+  by : (t : Bool) → Fits (cond t (verdictOf (found model (linesOf script) startBoth)) (No 0 0 BadTraces))
+  by true =
+      verdict-fits (length (linesOf script)) (found model (linesOf script) startBoth)
+      (omega (arith, lines-length script)) (lines-fit model (linesOf script) startBoth)
   by false = omega arith

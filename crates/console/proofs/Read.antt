@@ -8,6 +8,7 @@ use borrow.Author.Tests.{leb-true, ltb-true}
 use Rattle.refusal.specs.Meaning.{meaningOf}
 use Rattle.refusal.specs.declared.Refusal.{Refusal}
 use Rattle.refusal.proofs.Every.{refusal-rule, same-refusal}
+use Rattle.two_courses.specs.Model.{modelOf}
 use Rattle.script.specs.Check.{checkOf}
 use Rattle.verdict.specs.declared.Verdict.{Verdict}
 use Rattle.verdict.specs.declared.Verdict.the-variants.{Fine, No}
@@ -75,9 +76,10 @@ module _ (v : Verdict) (line place : ℕ) (r : Refusal) where
 
 pub read : (capacity : ℕ) (script : List ℕ) → Read capacity script
 read capacity script =
-    let v = checkOf capacity script in
-    let fits = check-fits capacity script in
+    let v = checkOf (modelOf capacity) script in
     record {
       yes = (zero-fine v, fine-zero v);
-      no = λ h line place r. (told v line place r (fits h), back v line place r (fits h));
+      no = λ h line place r.
+          let fits = check-fits (modelOf capacity) script h in
+          (told v line place r fits, back v line place r fits);
     }

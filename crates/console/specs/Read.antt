@@ -6,6 +6,7 @@ use mathlib.Core.List.{List}
 use lib.ListN.{length}
 use Rattle.refusal.specs.Meaning.{meaningOf}
 use Rattle.refusal.specs.declared.Refusal.{Refusal}
+use Rattle.two_courses.specs.Model.{modelOf}
 use Rattle.script.specs.Check.{checkOf}
 use Rattle.verdict.specs.declared.Verdict.the-variants.{Fine, No}
 use Rattle.verdict.specs.Number.{numberOf, lineRead, placeRead, refusalRead}
@@ -19,7 +20,8 @@ pub record ReadsAs (n line place : ℕ) (refusal : Refusal) : Type 0 where
 -- the claim, of a capacity and a script
 pub record Read (capacity : ℕ) (script : List ℕ) : Type 0 where
   -- 0 is read exactly where nothing is refused, whatever the script's length
-  pub yes : (numberOf (checkOf capacity script) ≡ 0) ↔ (checkOf capacity script ≡ Fine)
+  pub yes : (numberOf (checkOf (modelOf capacity) script) ≡ 0) ↔ (checkOf (modelOf capacity) script ≡ Fine)
   -- a line, a place and a refusal are read exactly where the check names them
   pub no : length script < 2 ^ 40 → (line place : ℕ) (refusal : Refusal) →
-      (checkOf capacity script ≡ No line place refusal) ↔ ReadsAs (numberOf (checkOf capacity script)) line place refusal
+      (checkOf (modelOf capacity) script ≡ No line place refusal)
+      ↔ ReadsAs (numberOf (checkOf (modelOf capacity) script)) line place refusal

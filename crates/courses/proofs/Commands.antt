@@ -1,4 +1,5 @@
--- A line's commands in any course: what the check passes, the course passes, and no course refuses a command before the one that the check refuses.
+-- A line's commands in any course: what the check passes, the course passes, and no course refuses a command before the
+-- one that the check refuses.
 use Prim.Native.Nat.{ℕ, _+_, _-_, _≤_}
 use native.Mathlib.Omega.{arith}
 use mathlib.Core.Bool.{Bool, true, false, cond, _&&_, false≢true}
@@ -17,32 +18,56 @@ use Rattle.command.specs.declared.Parsed.{Parsed}
 use Rattle.command.specs.declared.Parsed.the-variants as parsed
 use Rattle.state.specs.declared.State.{State}
 use Rattle.allow.specs.Allows.{allowsOf}
-use Rattle.change.specs.Change.{restoredBy, settingsAfter, storageBy, storageAfter, externalBy, externalAfter, movingAfter, stateAfter}
+use Rattle.change.specs.Change.{restoredBy, settingsAfter, storageBy, storageAfter, externalBy, externalAfter}
+use Rattle.change.specs.Change.{movingAfter, stateAfter}
 use Rattle.reply.specs.Reply.{fitsIn}
 use Rattle.answer.specs.Reply.{replyOf}
 use Rattle.line.specs.Perform.{Effect, refusedBy, doneBy, performed, commandOf}
 use Rattle.refusal.specs.Answer.{firstOf, isNoRoom, drops}
 use Rattle.line.specs.Line.{Line, waits, afterOf, stepOf, runAll}
 use Rattle.refusal.specs.declared.Answer.the-variants.{Passed, Refused}
+use Rattle.two_courses.specs.Model.{OfModel}
+use Rattle.two_courses.specs.declared.Model.{Model}
 use Rattle.two_courses.specs.Courses.{resets, kindRefusal, textRefusal, kindAfter, textAfter}
 use Rattle.two_courses.specs.declared.Both.{Both}
 use Rattle.script.specs.Check.{textsAnswer, textsAfter}
 use Rattle.demands.proofs.Sane.{Sane, SaneParsed, parsed-sane}
-use Rattle.courses.proofs.Alike.{alike-then, alike-allows, alike-after, alike-moving, after-settings, after-moving, after-unit}
+use Rattle.courses.proofs.Alike.{alike-then, alike-allows, alike-after, alike-moving, after-settings}
+use Rattle.courses.proofs.Alike.{after-moving, after-unit}
 use Rattle.courses.proofs.Between.{command-goes, reset-goes}
 use Rattle.courses.proofs.Gap.{Within}
 use Rattle.courses.proofs.Found.{not-passed, not-done, answer-passed, answer-split}
 
--- before the leading *RST nothing is known of a course but its capacity; after it, it is where the check's two courses let it be
-pub record Sim (capacity : ℕ) (b : Both) (s : State) : Type 0 where
-  pub same : s .unit .capacity ≡ capacity
-  pub begun : b .begun ≡ true → Within capacity (b .settings) (b .low) (b .high) s
+-- before the leading *RST nothing is known of a course but its model; after it, it is where the check's two courses let
+-- it be
+pub record Sim (model : Model) (b : Both) (s : State) : Type 0 where
+  pub same : OfModel model (s .unit)
+  pub begun : b .begun ≡ true → Within model (b .settings) (b .low) (b .high) s
 
 -- ---- one command
 
 -- an effect that isn't refused, and leads where the check goes
-abbrev Follows : ℕ → Both → Effect → Type 0
-Follows capacity b e = (e .outcome ≡ outcome.Done) × Sim capacity b (e .state)
+abbrev Follows : Model → Both → Effect → Type 0
+Follows model b e = (e .outcome ≡ outcome.Done) × Sim model b (e .state)
+
+-- what the check passes: after *RST what both of its courses allow, before it *RST
+pub kind-done : (b : Both) (kind : Kind) (Goal : Type 0) → kindRefusal kind b ≡ outcome.Done
+    → (b .begun ≡ true → allowsOf (b .settings) (b .low) kind ≡ true → allowsOf (b .settings) (b .high) kind ≡ true
+    → Goal)
+    → (resets kind ≡ true → Goal) → Goal
+unfolding kindRefusal
+kind-done b kind Goal =
+    by (b .begun) (allowsOf (b .settings) (b .low) kind) (allowsOf (b .settings) (b .high) kind) (resets kind)
+  where
+    by : (a l h r : Bool)
+        → cond a (cond (l && h) outcome.Done (outcome.Refused NotAllowed))
+        (cond r outcome.Done (outcome.Refused NoReset)) ≡ outcome.Done
+        → (a ≡ true → l ≡ true → h ≡ true → Goal) → (r ≡ true → Goal) → Goal
+    by true true true r e f g = f refl refl refl
+    by true true false r e f g = not-done NotAllowed e
+    by true false h r e f g = not-done NotAllowed e
+    by false l h true e f g = g refl
+    by false l h false e f g = not-done NoReset e
 
 -- a command that the state allows is done, or refused by 4
 pub allowed-done : (P : Effect → Type 0) (room : ℕ) (waiting : Bool) (kind : Kind) (s : State) (one two : List ℕ)
@@ -53,47 +78,57 @@ allowed-done P room waiting kind s one two e =
     rw e (by (fitsIn (replyOf kind s waiting one two) room))
   where
     by : (t : Bool)
-        → drops (cond t (doneBy kind (replyOf kind s waiting one two) s one two) (refusedBy NoRoom s one two) .outcome) ≡ false
+        → drops (cond t (doneBy kind (replyOf kind s waiting one two) s one two) (refusedBy NoRoom s one two) .outcome)
+        ≡ false
         → P (doneBy kind (replyOf kind s waiting one two) s one two)
         → P (cond t (doneBy kind (replyOf kind s waiting one two) s one two) (refusedBy NoRoom s one two))
     by true d p = p
     by false d p = absurd (false≢true (sym (unfold drops isNoRoom in d)))
 
 -- the state allows the command, which leads where the check goes
-abbrev Lands : ℕ → Both → State → Kind → Type 0
-Lands capacity b s kind =
+abbrev Lands : Model → Both → State → Kind → Type 0
+Lands model b s kind =
     (allowsOf (s .settings) (s .moving) kind ≡ true)
-    × Within capacity (settingsAfter kind (b .settings)) (movingAfter kind (b .settings) (b .low) capacity)
-    (movingAfter kind (b .settings) (b .high) capacity) (stateAfter kind s)
+    × Within model (settingsAfter kind (b .settings)) (movingAfter kind (b .settings) (b .low) (model .capacity))
+    (movingAfter kind (b .settings) (b .high) (model .capacity)) (stateAfter kind s)
 
-module _ (capacity : ℕ) (b : Both) (s : State) (i : Sim capacity b s) where
+module _ (model : Model) (b : Both) (s : State) (i : Sim model b s) where
   -- after *RST
-  begun-within : (kind : Kind) → Sane kind → b .begun ≡ true → allowsOf (b .settings) (b .low) kind ≡ true → allowsOf (b .settings) (b .high) kind ≡ true
-      → Lands capacity b s kind
+  begun-within : (kind : Kind) → Sane kind → b .begun ≡ true → allowsOf (b .settings) (b .low) kind ≡ true
+      → allowsOf (b .settings) (b .high) kind ≡ true
+      → Lands model b s kind
   begun-within kind k e l h =
       let w = i .begun e in
-      let g = command-goes capacity (b .settings) (s .moving) (b .low) (b .high) (w .between) kind k l h in (
+      let g = command-goes (model .capacity) (b .settings) (s .moving) (b .low) (b .high) (w .between) kind k l h in (
         alike-allows (s .settings) (b .settings) (w .alike) (s .moving) kind ∙ g .0,
         record {
           same = rw (after-unit kind s) (i .same);
           alike = alike-then (after-settings kind s) (alike-after (s .settings) (b .settings) (w .alike) kind);
-          between = rw (after-moving kind s, i .same, alike-moving (s .settings) (b .settings) (w .alike) kind (s .moving) capacity) (g .1);
+          between =
+              rw (
+                after-moving kind s,
+                i .same .capacity,
+                alike-moving (s .settings) (b .settings) (w .alike) kind
+                    (s .moving) (model .capacity),
+              ) (g .1);
         },
       )
 
   -- the leading *RST, in any state
-  reset-within : Lands capacity b s (Act Reset)
+  reset-within : Lands model b s (Act Reset)
   unfolding allowsOf settingsAfter restoredBy movingAfter externalAfter externalBy storageAfter storageBy
   reset-within = (
     refl,
     record {
       same = rw (after-unit (Act Reset) s) (i .same);
       alike = after-settings (Act Reset) s;
-      between = rw (after-moving (Act Reset) s) (reset-goes capacity (b .settings) (s .moving) (b .low) (b .high) .1);
+      between =
+          rw (after-moving (Act Reset) s)
+          (reset-goes (model .capacity) (b .settings) (s .moving) (b .low) (b .high) .1);
     },
   )
 
-  first-within : (kind : Kind) → resets kind ≡ true → Lands capacity b s kind
+  first-within : (kind : Kind) → resets kind ≡ true → Lands model b s kind
   unfolding resets
   first-within (Set a) e = absurd (false≢true e)
   first-within (Query q) e = absurd (false≢true e)
@@ -105,30 +140,23 @@ module _ (capacity : ℕ) (b : Both) (s : State) (i : Sim capacity b s) where
   first-within (Act Trigger) e = absurd (false≢true e)
 
   -- either way
-  kind-within : (kind : Kind) → Sane kind → kindRefusal kind b ≡ outcome.Done → Lands capacity b s kind
-  unfolding kindRefusal
-  kind-within kind k =
-      by (b .begun) (allowsOf (b .settings) (b .low) kind) (allowsOf (b .settings) (b .high) kind) (resets kind) refl refl refl refl
-    where
-      by : (a l h r : Bool) → b .begun ≡ a → allowsOf (b .settings) (b .low) kind ≡ l → allowsOf (b .settings) (b .high) kind ≡ h → resets kind ≡ r
-          → cond a (cond (l && h) outcome.Done (outcome.Refused NotAllowed)) (cond r outcome.Done (outcome.Refused NoReset)) ≡ outcome.Done
-          → Lands capacity b s kind
-      by true true true r p q u v e = begun-within kind k p q u
-      by true true false r p q u v e = not-done NotAllowed e
-      by true false h r p q u v e = not-done NotAllowed e
-      by false l h true p q u v e = first-within kind v
-      by false l h false p q u v e = not-done NoReset e
+  kind-within : (kind : Kind) → Sane kind → kindRefusal kind b ≡ outcome.Done → Lands model b s kind
+  kind-within kind k e =
+      kind-done b kind (Lands model b s kind) e (λ p q u. begun-within kind k p q u) (λ v. first-within kind v)
 
-  kind-follows : (room : ℕ) (waiting : Bool) (kind : Kind) (one two : List ℕ) → Sane kind → kindRefusal kind b ≡ outcome.Done
+  kind-follows : (room : ℕ) (waiting : Bool) (kind : Kind) (one two : List ℕ) → Sane kind
+      → kindRefusal kind b ≡ outcome.Done
       → drops (performed room waiting kind s one two .outcome) ≡ false
-      → Follows capacity (kindAfter capacity kind b) (performed room waiting kind s one two)
+      → Follows model (kindAfter model kind b) (performed room waiting kind s one two)
   kind-follows room waiting kind one two k e d =
       let g = kind-within kind k e in
-      allowed-done (Follows capacity (kindAfter capacity kind b)) room waiting kind s one two (g .0) d
+      allowed-done (Follows model (kindAfter model kind b)) room waiting kind s one two (g .0) d
       (unfold doneBy kindAfter in (refl, record { same = g .1 .same; begun = λ z. g .1 }))
 
-  parsed-follows : (room : ℕ) (waiting : Bool) (p : Parsed) (one two : List ℕ) → SaneParsed p → textRefusal p b ≡ outcome.Done
-      → drops (commandOf room waiting p s one two .outcome) ≡ false → Follows capacity (textAfter capacity p b) (commandOf room waiting p s one two)
+  parsed-follows : (room : ℕ) (waiting : Bool) (p : Parsed) (one two : List ℕ) → SaneParsed p
+      → textRefusal p b ≡ outcome.Done
+      → drops (commandOf room waiting p s one two .outcome) ≡ false
+      → Follows model (textAfter model p b) (commandOf room waiting p s one two)
   unfolding textRefusal textAfter commandOf
   parsed-follows room waiting parsed.Empty one two k e d = (refl, i)
   parsed-follows room waiting (parsed.Refused r) one two k e d = not-done _ e
@@ -137,14 +165,17 @@ module _ (capacity : ℕ) (b : Both) (s : State) (i : Sim capacity b s) where
 -- ---- a line's commands
 
 -- a line whose last command isn't refused by 4 goes on after each
-kept-rest : (next rest : Line) → cond (next .dropped) next rest .dropped ≡ false → (next .dropped ≡ false) × (cond (next .dropped) next rest ≡ rest)
+kept-rest : (next rest : Line) → cond (next .dropped) next rest .dropped ≡ false
+    → (next .dropped ≡ false) × (cond (next .dropped) next rest ≡ rest)
 kept-rest next rest = by (next .dropped) refl where
-  by : (t : Bool) → next .dropped ≡ t → cond t next rest .dropped ≡ false → (next .dropped ≡ false) × (cond t next rest ≡ rest)
+  by : (t : Bool) → next .dropped ≡ t → cond t next rest .dropped ≡ false
+      → (next .dropped ≡ false) × (cond t next rest ≡ rest)
   by true p e = absurd (false≢true (sym (sym p ∙ e)))
   by false p e = (p, refl)
 
 module _ (room : ℕ) (t : List ℕ) (ts : List (List ℕ)) (l : Line) where
-  pub run-rest : runAll room (t ∷ ts) l .dropped ≡ false → (stepOf room t l .dropped ≡ false) × (runAll room (t ∷ ts) l ≡ runAll room ts (stepOf room t l))
+  pub run-rest : runAll room (t ∷ ts) l .dropped ≡ false
+      → (stepOf room t l .dropped ≡ false) × (runAll room (t ∷ ts) l ≡ runAll room ts (stepOf room t l))
   unfolding runAll
   run-rest = kept-rest (stepOf room t l) (runAll room ts (stepOf room t l))
 
@@ -152,17 +183,20 @@ module _ (room : ℕ) (t : List ℕ) (ts : List (List ℕ)) (l : Line) where
 abbrev pub effectIn : ℕ → List ℕ → Line → Effect
 effectIn room t l = commandOf (room - length (l .out)) (waits (l .out)) (parsedOf t) (l .state) (l .one) (l .two)
 
-pub step-passed : (room : ℕ) (t : List ℕ) (l : Line) → l .answer ≡ Passed → effectIn room t l .outcome ≡ outcome.Done → stepOf room t l .answer ≡ Passed
+pub step-passed : (room : ℕ) (t : List ℕ) (l : Line) → l .answer ≡ Passed → effectIn room t l .outcome ≡ outcome.Done
+    → stepOf room t l .answer ≡ Passed
 unfolding stepOf afterOf
 step-passed room t l e f = rw (e, f) (unfold firstOf in refl)
 
-pub step-refused : (room : ℕ) (t : List ℕ) (l : Line) (r : Refusal) → l .answer ≡ Passed → effectIn room t l .outcome ≡ outcome.Refused r
+pub step-refused : (room : ℕ) (t : List ℕ) (l : Line) (r : Refusal) → l .answer ≡ Passed
+    → effectIn room t l .outcome ≡ outcome.Refused r
     → stepOf room t l .answer ≡ Refused r (l .count + 1)
 unfolding stepOf afterOf
 step-refused room t l r e f = rw (e, f) (unfold firstOf in refl)
 
 -- the first refusal stays
-pub run-refused : (room : ℕ) (ts : List (List ℕ)) (l : Line) (r : Refusal) (p : ℕ) → l .answer ≡ Refused r p → runAll room ts l .answer ≡ Refused r p
+pub run-refused : (room : ℕ) (ts : List (List ℕ)) (l : Line) (r : Refusal) (p : ℕ) → l .answer ≡ Refused r p
+    → runAll room ts l .answer ≡ Refused r p
 unfolding runAll
 run-refused room [] l r p e = e
 run-refused room (t ∷ ts) l r p e =
@@ -171,11 +205,13 @@ run-refused room (t ∷ ts) l r p e =
     step : stepOf room t l .answer ≡ Refused r p
     step = unfold stepOf afterOf in rw e (unfold firstOf in refl)
 
-    by : (d : Bool) → runAll room ts (stepOf room t l) .answer ≡ Refused r p → cond d (stepOf room t l) (runAll room ts (stepOf room t l)) .answer ≡ Refused r p
+    by : (d : Bool) → runAll room ts (stepOf room t l) .answer ≡ Refused r p
+        → cond d (stepOf room t l) (runAll room ts (stepOf room t l)) .answer ≡ Refused r p
     by true q = step
     by false q = q
 
-outcome-split : (o : Outcome) (Goal : Type 0) → (o ≡ outcome.Done → Goal) → ((r : Refusal) → o ≡ outcome.Refused r → Goal) → Goal
+outcome-split : (o : Outcome) (Goal : Type 0) → (o ≡ outcome.Done → Goal)
+    → ((r : Refusal) → o ≡ outcome.Refused r → Goal) → Goal
 outcome-split outcome.Done G f g = f refl
 outcome-split (outcome.Refused r) G f g = g r refl
 
@@ -184,7 +220,8 @@ unfolding stepOf afterOf
 count-step room t l = refl
 
 -- a refusal's place is behind what passed
-place-behind : (room : ℕ) (ts : List (List ℕ)) (l : Line) (r : Refusal) (p : ℕ) → l .answer ≡ Passed → runAll room ts l .dropped ≡ false
+place-behind : (room : ℕ) (ts : List (List ℕ)) (l : Line) (r : Refusal) (p : ℕ) → l .answer ≡ Passed
+    → runAll room ts l .dropped ≡ false
     → runAll room ts l .answer ≡ Refused r p → l .count + 1 ≤ p
 place-behind room [] l r p e d f =
     let g : l .answer ≡ Refused r p = unfold runAll in f in
@@ -198,47 +235,58 @@ place-behind room (t ∷ ts) l r p e d f =
     let n = place-behind room ts next r p (step-passed room t l e q) (rw (rest .1) at d) on in
     omega (arith, n, count-step room t l))
     (λ s q.
-    let z : Refused s (l .count + 1) ≡ Refused r p = sym (run-refused room ts next s (l .count + 1) (step-refused room t l s e q)) ∙ on in
+    let z : Refused s (l .count + 1) ≡ Refused r p = sym
+    (run-refused room ts next s (l .count + 1) (step-refused room t l s e q)) ∙ on in
     let y : l .count + 1 ≡ p = cc in
     omega arith)
 
 -- what the check passes
-step-follows : (capacity room : ℕ) (t : List ℕ) (l : Line) (b : Both) → Sim capacity b (l .state) → textRefusal (parsedOf t) b ≡ outcome.Done
-    → stepOf room t l .dropped ≡ false → (effectIn room t l .outcome ≡ outcome.Done) × Sim capacity (textAfter capacity (parsedOf t) b) (stepOf room t l .state)
+step-follows : (model : Model) (room : ℕ) (t : List ℕ) (l : Line) (b : Both) → Sim model b (l .state)
+    → textRefusal (parsedOf t) b ≡ outcome.Done
+    → stepOf room t l .dropped ≡ false
+    → (effectIn room t l .outcome ≡ outcome.Done) × Sim model (textAfter model (parsedOf t) b) (stepOf room t l .state)
 unfolding stepOf afterOf
-step-follows capacity room t l b i e d =
-    parsed-follows capacity b (l .state) i (room - length (l .out)) (waits (l .out)) (parsedOf t) (l .one) (l .two) (parsed-sane t) e d
+step-follows model room t l b i e d =
+    parsed-follows model b (l .state) i (room - length (l .out)) (waits (l .out)) (parsedOf t) (l .one) (l .two)
+    (parsed-sane t) e d
 
-pub run-passed : (capacity room : ℕ) (ts : List (List ℕ)) (l : Line) (b : Both) → Sim capacity b (l .state) → l .answer ≡ Passed
-    → runAll room ts l .dropped ≡ false → textsAnswer capacity (l .count + 1) ts b ≡ Passed
-    → (runAll room ts l .answer ≡ Passed) × Sim capacity (textsAfter capacity ts b) (runAll room ts l .state)
+pub run-passed : (model : Model) (room : ℕ) (ts : List (List ℕ)) (l : Line) (b : Both) → Sim model b (l .state)
+    → l .answer ≡ Passed
+    → runAll room ts l .dropped ≡ false → textsAnswer model (l .count + 1) ts b ≡ Passed
+    → (runAll room ts l .answer ≡ Passed) × Sim model (textsAfter model ts b) (runAll room ts l .state)
 unfolding textsAfter
-run-passed capacity room [] l b i e d f = unfold runAll in (e, i)
-run-passed capacity room (t ∷ ts) l b i e d f =
+run-passed model room [] l b i e d f = unfold runAll in (e, i)
+run-passed model room (t ∷ ts) l b i e d f =
     let next = stepOf room t l in
     let rest = run-rest room t ts l d in
     let q =
-    answer-passed (textRefusal (parsedOf t) b) (l .count + 1) (textsAnswer capacity (l .count + 1 + 1) ts (textAfter capacity (parsedOf t) b))
+    answer-passed (textRefusal (parsedOf t) b) (l .count + 1)
+    (textsAnswer model (l .count + 1 + 1) ts (textAfter model (parsedOf t) b))
     (unfold textsAnswer in f)
     in
-    let k = step-follows capacity room t l b i (q .0) (rest .0) in
+    let k = step-follows model room t l b i (q .0) (rest .0) in
     let n =
-    run-passed capacity room ts next (textAfter capacity (parsedOf t) b) (k .1) (step-passed room t l e (k .0)) (rw (rest .1) at d)
+    run-passed model room ts next (textAfter model (parsedOf t) b) (k .1) (step-passed room t l e (k .0))
+    (rw (rest .1) at d)
     (rw (count-step room t l) (q .1))
     in
     rw (rest .1) n
 
 -- where the check refuses one
-pub run-earlier : (capacity room : ℕ) (ts : List (List ℕ)) (l : Line) (b : Both) (r s : Refusal) (p q : ℕ) → Sim capacity b (l .state) → l .answer ≡ Passed
-    → runAll room ts l .dropped ≡ false → textsAnswer capacity (l .count + 1) ts b ≡ Refused r p → runAll room ts l .answer ≡ Refused s q → p ≤ q
-run-earlier capacity room [] l b r s p q i e d f g = not-passed r p (sym (unfold textsAnswer in f))
-run-earlier capacity room (t ∷ ts) l b r s p q i e d f g =
+pub run-earlier : (model : Model) (room : ℕ) (ts : List (List ℕ)) (l : Line) (b : Both) (r s : Refusal) (p q : ℕ)
+    → Sim model b (l .state) → l .answer ≡ Passed
+    → runAll room ts l .dropped ≡ false → textsAnswer model (l .count + 1) ts b ≡ Refused r p
+    → runAll room ts l .answer ≡ Refused s q → p ≤ q
+run-earlier model room [] l b r s p q i e d f g = not-passed r p (sym (unfold textsAnswer in f))
+run-earlier model room (t ∷ ts) l b r s p q i e d f g =
     let next = stepOf room t l in
     let rest = run-rest room t ts l d in
-    answer-split (textRefusal (parsedOf t) b) (l .count + 1) (textsAnswer capacity (l .count + 1 + 1) ts (textAfter capacity (parsedOf t) b)) p r (p ≤ q)
+    answer-split (textRefusal (parsedOf t) b) (l .count + 1)
+    (textsAnswer model (l .count + 1 + 1) ts (textAfter model (parsedOf t) b)) p r (p ≤ q)
     (unfold textsAnswer in f)
     (λ z h.
-    let k = step-follows capacity room t l b i z (rest .0) in
-    run-earlier capacity room ts next (textAfter capacity (parsedOf t) b) r s p q (k .1) (step-passed room t l e (k .0)) (rw (rest .1) at d)
+    let k = step-follows model room t l b i z (rest .0) in
+    run-earlier model room ts next (textAfter model (parsedOf t) b) r s p q (k .1) (step-passed room t l e (k .0))
+    (rw (rest .1) at d)
     (rw (count-step room t l) h) (rw (rest .1) at g))
     (λ z w. omega (arith, w, place-behind room (t ∷ ts) l s q e d g))

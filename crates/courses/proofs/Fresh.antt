@@ -13,7 +13,8 @@ use Rattle.settings.specs.Table.{table, startSettings}
 use Rattle.state.specs.State.{startState}
 use Rattle.state.specs.declared.Unit.{Unit as ModuleUnit}
 use Rattle.module.specs.Start.{unitKnown, tracesFit, freshModule, startOf}
-use Rattle.script.specs.Check.{capacityFits}
+use Rattle.two_courses.specs.Model.{modelFits}
+use Rattle.two_courses.specs.declared.Model.{Model}
 use Rattle.demands.specs.Representable.{Every, Word, Byte, ModuleFits}
 use Rattle.demands.proofs.Bytes.{all}
 use Rattle.courses.specs.Course.{WorldFits, StartAnswers, Startable, freshWorld}
@@ -21,17 +22,17 @@ use Rattle.courses.proofs.Found.{not-done}
 
 -- ---- the start's answer
 
-module _ (capacity : ℕ) where
-  -- the one answer that a capacity has, legal or not
-  answer-is : (t : Bool) → capacityFits capacity ≡ t → StartAnswers capacity (cond t Done (Refused BadTraces))
+module _ (model : Model) where
+  -- the one answer that a model has, legal or not
+  answer-is : (t : Bool) → modelFits model ≡ t → StartAnswers model (cond t Done (Refused BadTraces))
   unfolding startOf tracesFit
-  answer-is true e serial port k = rw (k, eq-eqb capacity capacity refl, e) refl
-  answer-is false e serial port k = rw (k, eq-eqb capacity capacity refl, e) refl
+  answer-is true e serial port k = rw (k, eq-eqb (model .capacity) (model .capacity) refl, e) refl
+  answer-is false e serial port k = rw (k, eq-eqb (model .capacity) (model .capacity) refl, e) refl
 
-  pub fits-start : capacityFits capacity ≡ true → Startable capacity
+  pub fits-start : modelFits model ≡ true → Startable model
   fits-start e = answer-is true e
 
-  pub unfit-start : capacityFits capacity ≡ false → StartAnswers capacity (Refused BadTraces)
+  pub unfit-start : modelFits model ≡ false → StartAnswers model (Refused BadTraces)
   unfit-start e = answer-is false e
 
   -- serial number 0 and GPIB are taken
@@ -40,25 +41,25 @@ module _ (capacity : ℕ) where
   known = refl
 
   -- so the answer tells which it is
-  answers-apart : Startable capacity → StartAnswers capacity (Refused BadTraces) → ⊥
+  answers-apart : Startable model → StartAnswers model (Refused BadTraces) → ⊥
   answers-apart s u = not-done BadTraces (sym (u 0 1 known) ∙ s 0 1 known)
 
-  pub start-fits : Startable capacity → capacityFits capacity ≡ true
-  start-fits s = by (capacityFits capacity) refl where
-    by : (t : Bool) → capacityFits capacity ≡ t → t ≡ true
+  pub start-fits : Startable model → modelFits model ≡ true
+  start-fits s = by (modelFits model) refl where
+    by : (t : Bool) → modelFits model ≡ t → t ≡ true
     by true e = refl
     by false e = absurd (answers-apart s (unfit-start e))
 
-  pub start-unfit : StartAnswers capacity (Refused BadTraces) → capacityFits capacity ≡ false
-  start-unfit u = by (capacityFits capacity) refl where
-    by : (t : Bool) → capacityFits capacity ≡ t → t ≡ false
+  pub start-unfit : StartAnswers model (Refused BadTraces) → modelFits model ≡ false
+  start-unfit u = by (modelFits model) refl where
+    by : (t : Bool) → modelFits model ≡ t → t ≡ false
     by true e = absurd (answers-apart (fits-start e) u)
     by false e = refl
 
 -- ---- what is started
 
-abbrev freshUnit : ℕ → ModuleUnit
-freshUnit capacity = record { serial = 0; port = 1; capacity = capacity }
+abbrev freshUnit : Model → ModuleUnit
+freshUnit model = record { serial = 0; port = 1; capacity = model .capacity }
 
 every-below : (n : ℕ) (xs : List ℕ) → all (λ x. ltb x n) xs ≡ true → Every (λ x. x < n) xs
 every-below n [] e = tt
@@ -74,15 +75,19 @@ start-values : Every Word (startSettings .values)
 unfolding startSettings table
 start-values = every-below (2 ^ 32) (startSettings .values) refl
 
-module _ (capacity : ℕ) (fits : capacityFits capacity ≡ true) where
-  pub fresh-core : freshWorld capacity .core ≡ freshModule (freshUnit capacity)
+module _ (model : Model) (fits : modelFits model ≡ true) where
+  pub fresh-core : freshWorld model .core ≡ freshModule (freshUnit model)
   unfolding freshWorld startOf tracesFit unitKnown
-  fresh-core = rw (eq-eqb capacity capacity refl, fits) refl
+  fresh-core = rw (eq-eqb (model .capacity) (model .capacity) refl, fits) refl
 
-  small : capacity < 2 ^ 32
-  small = omega (arith, leb-true capacity 16383 (and-eq-true-iff (leb 1 capacity) (leb capacity 16383) .0 fits .1))
+  small : model .capacity < 2 ^ 32
+  small = omega (
+    arith,
+    leb-true (model .capacity) 16383
+        (and-eq-true-iff (leb 1 (model .capacity)) (leb (model .capacity) 16383) .0 fits .1),
+  )
 
-  module-fits : ModuleFits (freshModule (freshUnit capacity))
+  module-fits : ModuleFits (freshModule (freshUnit model))
   unfolding freshModule startState startSettings table
   module-fits =
       record {
@@ -102,11 +107,11 @@ module _ (capacity : ℕ) (fits : capacityFits capacity ≡ true) where
         queue = record { full = refl; bytes = every-replicate Byte 0 (omega arith) 256; len = omega arith };
       }
 
-  pub fresh-fits : WorldFits (freshWorld capacity)
+  pub fresh-fits : WorldFits (freshWorld model)
   unfolding freshWorld
   fresh-fits =
       record {
         core = rw fresh-core module-fits;
-        one = every-replicate Word 0 (omega arith) capacity;
-        two = every-replicate Word 0 (omega arith) capacity;
+        one = every-replicate Word 0 (omega arith) (model .capacity);
+        two = every-replicate Word 0 (omega arith) (model .capacity);
       }

@@ -24,6 +24,8 @@ use Rattle.event.specs.Event.{eventOf, done, refused}
 use Rattle.event.specs.declared.Event.{Event}
 use Rattle.event.specs.declared.Event.the-variants.{Latest, Tick, Trigger, Measured, Raised}
 use Rattle.status.specs.Status.{withLia, mayRaise}
+use Rattle.two_courses.specs.Model.{OfModel}
+use Rattle.two_courses.specs.declared.Model.{Model}
 use Rattle.two_courses.specs.Courses.{measuredHigh, triggeredHigh}
 use Rattle.courses.proofs.Alike.{Alike, alike-then, alike-value, alike-sampling, crossed-settings, crossed-moving}
 use Rattle.courses.proofs.Storages.{Low, low-ticked, low-event, reset-started, ticked-reset, triggered-reset}
@@ -100,19 +102,22 @@ module _ (capacity : ℕ) (x : Settings) (m lo hi : Moving) (k : Between capacit
 
 -- ---- any course
 
--- a state of the capacity, with settings alike and a moving part between the two
-pub record Within (capacity : ℕ) (x : Settings) (lo hi : Moving) (s : State) : Type 0 where
-  pub same : s .unit .capacity ≡ capacity
+-- a state of the model told, with settings alike and a moving part between the two
+pub record Within (model : Model) (x : Settings) (lo hi : Moving) (s : State) : Type 0 where
+  pub same : OfModel model (s .unit)
   pub alike : Alike (s .settings) x
-  pub between : Between capacity x (s .moving) lo hi
+  pub between : Between (model .capacity) x (s .moving) lo hi
 
-module _ (capacity : ℕ) (x : Settings) (lo hi : Moving) (ready : Ready x hi) (s : State) (k : Within capacity x lo hi s) where
+module _ (model : Model) (x : Settings) (lo hi : Moving) (ready : Ready x hi) (s : State) (k : Within model x lo hi s) where
+  abbrev capacity : ℕ
+  capacity = model .capacity
+
   with-storage : (t : Storage) → Low capacity (lo .storage) t → (isReset (hi .storage) ≡ true → isReset t ≡ true)
       → Between capacity x (withStorage t (s .moving)) lo hi
   with-storage t l r =
       record { kept = k .between .kept; limit = k .between .limit; external = k .between .external; low = l; high = r }
 
-  tick-within : (one two : List ℕ) → Within capacity x lo hi (eventOf Tick s one two .state)
+  tick-within : (one two : List ℕ) → Within model x lo hi (eventOf Tick s one two .state)
   unfolding eventOf sampledIn sampledBy tickOf
   tick-within one two =
       let by = samplingOf (s .settings) in
@@ -120,7 +125,7 @@ module _ (capacity : ℕ) (x : Settings) (lo hi : Moving) (ready : Ready x hi) (
         same = k .same;
         alike = k .alike;
         between =
-            rw (k .same)
+            rw (k .same .capacity)
             (with-storage (tickedOf (s .moving .storage) capacity by .storage) (low-ticked capacity by (lo .storage) (s .moving .storage) (k .between .low))
             (λ e. ticked-reset capacity by (s .moving .storage) ∙ k .between .high e));
       }
@@ -130,7 +135,7 @@ module _ (capacity : ℕ) (x : Settings) (lo hi : Moving) (ready : Ready x hi) (
   readied-other true b e = absurd (false≢true (sym (b refl) ∙ e))
   readied-other false b e = k .between .high e
 
-  trigger-within : (one two : List ℕ) → Within capacity x lo hi (eventOf Trigger s one two .state)
+  trigger-within : (one two : List ℕ) → Within model x lo hi (eventOf Trigger s one two .state)
   unfolding eventOf sampledIn sampledBy triggerOf
   trigger-within one two =
       let by = samplingOf x in
@@ -138,7 +143,7 @@ module _ (capacity : ℕ) (x : Settings) (lo hi : Moving) (ready : Ready x hi) (
         same = k .same;
         alike = k .alike;
         between =
-            rw (k .same, alike-sampling (s .settings) x (k .alike))
+            rw (k .same .capacity, alike-sampling (s .settings) x (k .alike))
             (with-storage (triggeredOf (s .moving .storage) capacity by .storage) (low-event capacity by (lo .storage) (s .moving .storage) (k .between .low))
             (λ e. triggered-reset capacity by (s .moving .storage) ∙ begun e));
       }
@@ -146,7 +151,7 @@ module _ (capacity : ℕ) (x : Settings) (lo hi : Moving) (ready : Ready x hi) (
       begun : isReset (hi .storage) ≡ true → isReset (readiedOf (s .moving .storage) (samplingOf x)) ≡ true
       begun e = unfold readiedOf samplingOf in readied-other (eqb (valueOf x tstr) triggerStarts) (ready .begun) e
 
-  measured-within : (f : ℕ) → Within capacity x lo hi (measuredBy f s)
+  measured-within : (f : ℕ) → Within model x lo hi (measuredBy f s)
   unfolding measuredBy
   measured-within f = by (eqb (valueOf (s .settings) fmod) 1) (takesFrequency s f) refl refl where
     taken : eqb (valueOf (s .settings) fmod) 1 ≡ false → takesFrequency s f ≡ true → f ≤ hi .external
@@ -156,7 +161,7 @@ module _ (capacity : ℕ) (x : Settings) (lo hi : Moving) (ready : Ready x hi) (
         (leb-true (valueOf (s .settings) harm * f) (hertz 102000) (unfold takesFrequency in and-eq-true-iff (frequencyInRange f) _ .0 t .1)))
 
     by : (a b : Bool) → eqb (valueOf (s .settings) fmod) 1 ≡ a → takesFrequency s f ≡ b
-        → Within capacity x lo hi
+        → Within model x lo hi
         (cond a s (cond b (crossedFrom (detectionNow s) (withExternal f s)) (withRegisters (withLia (s .registers) notTaken) s)))
     by true b p q = k
     by false true p q =
@@ -170,11 +175,11 @@ module _ (capacity : ℕ) (x : Settings) (lo hi : Moving) (ready : Ready x hi) (
         }
     by false false p q = record { same = k .same; alike = k .alike; between = k .between }
 
-  quiet-within : (b : Bool) (t : State) → Within capacity x lo hi t → Within capacity x lo hi (cond b (done t) (refused s) .state)
+  quiet-within : (b : Bool) (t : State) → Within model x lo hi t → Within model x lo hi (cond b (done t) (refused s) .state)
   quiet-within true t w = w
   quiet-within false t w = k
 
-  pub event-within : (e : Event) (one two : List ℕ) → Within capacity x lo hi (eventOf e s one two .state)
+  pub event-within : (e : Event) (one two : List ℕ) → Within model x lo hi (eventOf e s one two .state)
   event-within (Latest w v) one two =
       unfold eventOf pairTaken in
       quiet-within (keepsLatest (pairOf w v)) _ (record { same = k .same; alike = k .alike; between = k .between })

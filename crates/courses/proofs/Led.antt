@@ -1,5 +1,5 @@
--- How a script begins, by what the check finds.
-use Prim.Native.Nat.{ℕ, zero, suc, _+_, _≤_, _<_}
+-- How a script begins, by what the check finds: with *RST, with another command, or with none.
+use Prim.Native.Nat.{ℕ, suc, _+_, _≤_}
 use native.Mathlib.Omega.{arith}
 use mathlib.Core.Bool.{Bool, true, false, _||_}
 use mathlib.Core.Path.{_≡_, refl, sym, ap, _∙_}
@@ -12,29 +12,34 @@ use Rattle.command.specs.Parsed.{parsedOf}
 use Rattle.command.specs.declared.Parsed.{Parsed}
 use Rattle.command.specs.declared.Parsed.the-variants as parsed
 use Rattle.clean.specs.Texts.{textsOf}
+use Rattle.refusal.specs.declared.Answer.{Answer}
 use Rattle.refusal.specs.declared.Answer.the-variants.{Passed, Refused}
+use Rattle.two_courses.specs.declared.Model.{Model}
 use Rattle.two_courses.specs.Courses.{resets, gapOf, kindRefusal, textRefusal, kindAfter, textAfter}
 use Rattle.two_courses.specs.declared.Both.{Both}
-use Rattle.script.specs.Check.{textsAnswer, textsAfter}
-use Rattle.courses.specs.Demand3.{Lead, none, first, leadBy, leadIn, orElse, leadFrom, isReset, begins}
-use Rattle.courses.proofs.Found as found
-use Rattle.courses.proofs.Found.{fine, stop, lineAnswer, never, not-passed, not-done, found-fine, found-none, found-here, found-later, end-stop, answer-passed, answer-split}
+use Rattle.script.specs.Check.{textsAnswer, textsAfter, lineAnswer, lineAfter}
+use Rattle.script.specs.Check.{Found, fine, noCommand, stop, later, foundBy, found}
+use Rattle.courses.specs.Demand3.{Lead, none, first, leadBy, leadIn, orElse, leadFrom, isReset}
+use Rattle.courses.proofs.Found.{never, not-passed, not-done, answer-passed, answer-split}
 use Rattle.courses.proofs.Witness.{refused-same}
-use Rattle.courses.proofs.Long.{numberOf, begun-texts, begun-number, gap-begun, passed-short, refused-short}
+use Rattle.courses.proofs.Long.{numberOf, begun-texts, begun-number, gap-begun, passed-short, refused-split}
 
 -- ---- one command before *RST: it is empty, *RST, or another
 
-record Skipped (capacity : ℕ) (b : Both) (p : Parsed) (line place : ℕ) (later : Lead) : Type 0 where
+-- it is empty: the check goes on as it was
+record Skipped (model : Model) (b : Both) (p : Parsed) (line place : ℕ) (later : Lead) : Type 0 where
   outcome : textRefusal p b ≡ outcome.Done
-  after : textAfter capacity p b ≡ b
+  after : textAfter model p b ≡ b
   lead : leadBy p line place later ≡ later
 
-record Begun (capacity : ℕ) (b : Both) (p : Parsed) (line place : ℕ) (later : Lead) : Type 0 where
+-- it is *RST
+record Begun (model : Model) (b : Both) (p : Parsed) (line place : ℕ) (later : Lead) : Type 0 where
   outcome : textRefusal p b ≡ outcome.Done
-  after : textAfter capacity p b .begun ≡ true
+  after : textAfter model p b .begun ≡ true
   lead : leadBy p line place later ≡ first line place p
   reset : isReset p ≡ true
 
+-- it is another: 7
 record Unled (b : Both) (p : Parsed) (line place : ℕ) (later : Lead) : Type 0 where
   outcome : textRefusal p b ≡ outcome.Refused NoReset
   lead : leadBy p line place later ≡ first line place p
@@ -44,12 +49,15 @@ or-true : (a b : Bool) → b ≡ true → (a || b) ≡ true
 or-true true b e = refl
 or-true false b e = e
 
-lead-split : (capacity : ℕ) (b : Both) → b .begun ≡ false → (p : Parsed) (line place : ℕ) (later : Lead) (Goal : Type 0)
-    → (Skipped capacity b p line place later → Goal) → (Begun capacity b p line place later → Goal) → (Unled b p line place later → Goal) → Goal
+lead-split : (model : Model) (b : Both) → b .begun ≡ false
+    → (p : Parsed) (line place : ℕ) (later : Lead) (Goal : Type 0)
+    → (Skipped model b p line place later → Goal) → (Begun model b p line place later → Goal)
+    → (Unled b p line place later → Goal) → Goal
 unfolding textRefusal textAfter leadBy isReset
-lead-split capacity b k parsed.Empty line place later G f g h = f (record { outcome = refl; after = refl; lead = refl })
-lead-split capacity b k (parsed.Refused r) line place later G f g h = h (record { outcome = rw k refl; lead = refl; reset = refl })
-lead-split capacity b k (parsed.Taken c) line place later G f g h = by (resets (c .kind)) refl where
+lead-split model b k parsed.Empty line place later G f g h = f (record { outcome = refl; after = refl; lead = refl })
+lead-split model b k (parsed.Refused r) line place later G f g h =
+    h (record { outcome = rw k refl; lead = refl; reset = refl })
+lead-split model b k (parsed.Taken c) line place later G f g h = by (resets (c .kind)) refl where
   by : (t : Bool) → resets (c .kind) ≡ t → G
   by true e =
       g (record {
@@ -62,58 +70,62 @@ lead-split capacity b k (parsed.Taken c) line place later G f g h = by (resets (
 
 -- ---- a line before *RST
 
-module _ (capacity line : ℕ) (Goal : Type 0) where
-  early-passed : (place : ℕ) (ts : List (List ℕ)) (b : Both) → b .begun ≡ false → textsAnswer capacity place ts b ≡ Passed
-      → (leadIn line place ts ≡ none → textsAfter capacity ts b .begun ≡ false → Goal)
-      → ((q : ℕ) (c : Parsed) → leadIn line place ts ≡ first line q c → isReset c ≡ true → textsAfter capacity ts b .begun ≡ true → Goal) → Goal
+module _ (model : Model) (line : ℕ) (Goal : Type 0) where
+  early-passed : (place : ℕ) (ts : List (List ℕ)) (b : Both) → b .begun ≡ false → textsAnswer model place ts b ≡ Passed
+      → (leadIn line place ts ≡ none → textsAfter model ts b .begun ≡ false → Goal)
+      → ((q : ℕ) (c : Parsed) → leadIn line place ts ≡ first line q c → isReset c ≡ true → textsAfter model ts b .begun
+      ≡ true → Goal) → Goal
   unfolding textsAnswer textsAfter leadIn
   early-passed place [] b k e f g = f refl k
   early-passed place (t ∷ ts) b k e f g =
       let p = parsedOf t in
-      let a = answer-passed (textRefusal p b) place (textsAnswer capacity (place + 1) ts (textAfter capacity p b)) e in
-      lead-split capacity b k p line place (leadIn line (place + 1) ts) Goal
+      let a = answer-passed (textRefusal p b) place (textsAnswer model (place + 1) ts (textAfter model p b)) e in
+      lead-split model b k p line place (leadIn line (place + 1) ts) Goal
       (λ s.
-      let n : textsAnswer capacity (place + 1) ts b ≡ Passed = rw (s .after) at (a .1) in
+      let n : textsAnswer model (place + 1) ts b ≡ Passed = rw (s .after) at (a .1) in
       early-passed (place + 1) ts b k n
-      (λ u v. f (s .lead ∙ u) (ap (λ (y : Both). textsAfter capacity ts y .begun) (s .after) ∙ v))
-      (λ q c u v w. g q c (s .lead ∙ u) v (ap (λ (y : Both). textsAfter capacity ts y .begun) (s .after) ∙ w)))
-      (λ s. g place p (s .lead) (s .reset) (begun-texts capacity ts (textAfter capacity p b) (s .after)))
+      (λ u v. f (s .lead ∙ u) (ap (λ (y : Both). textsAfter model ts y .begun) (s .after) ∙ v))
+      (λ q c u v w. g q c (s .lead ∙ u) v (ap (λ (y : Both). textsAfter model ts y .begun) (s .after) ∙ w)))
+      (λ s. g place p (s .lead) (s .reset) (begun-texts model ts (textAfter model p b) (s .after)))
       (λ s. not-done NoReset (sym (s .outcome) ∙ a .0))
 
-  early-refused : (place : ℕ) (ts : List (List ℕ)) (b : Both) (r : Refusal) (p : ℕ) → b .begun ≡ false → textsAnswer capacity place ts b ≡ Refused r p
+  early-refused : (place : ℕ) (ts : List (List ℕ)) (b : Both) (r : Refusal) (p : ℕ) → b .begun ≡ false
+      → textsAnswer model place ts b ≡ Refused r p
       → ((c : Parsed) → r ≡ NoReset → leadIn line place ts ≡ first line p c → isReset c ≡ false → Goal)
       → ((q : ℕ) (c : Parsed) → leadIn line place ts ≡ first line q c → isReset c ≡ true → numberOf r ≤ 3 → Goal) → Goal
   unfolding textsAnswer leadIn
   early-refused place [] b r p k e f g = not-passed r p (sym e)
   early-refused place (t ∷ ts) b r p k e f g =
       let x = parsedOf t in
-      let split = answer-split (textRefusal x b) place (textsAnswer capacity (place + 1) ts (textAfter capacity x b)) p r Goal e in
-      lead-split capacity b k x line place (leadIn line (place + 1) ts) Goal
+      let split = answer-split (textRefusal x b) place (textsAnswer model (place + 1) ts (textAfter model x b)) p r Goal
+      e in
+      lead-split model b k x line place (leadIn line (place + 1) ts) Goal
       (λ s.
       split
       (λ u v.
-      let n : textsAnswer capacity (place + 1) ts b ≡ Refused r p = rw (s .after) at v in
+      let n : textsAnswer model (place + 1) ts b ≡ Refused r p = rw (s .after) at v in
       early-refused (place + 1) ts b r p k n (λ c y z w. f c y (s .lead ∙ z) w) (λ q c y z w. g q c (s .lead ∙ y) z w))
       (λ u v. not-done r (sym u ∙ s .outcome)))
       (λ s.
       split
-      (λ u v. g place x (s .lead) (s .reset) (begun-number capacity (place + 1) ts (textAfter capacity x b) r p (s .after) v))
+      (λ u v. g place x (s .lead) (s .reset) (begun-number model (place + 1) ts (textAfter model x b) r p (s .after) v))
       (λ u v. not-done r (sym u ∙ s .outcome)))
       (λ s.
       split
       (λ u v. not-done NoReset (sym (s .outcome) ∙ u))
       (λ u v. f x (refused-same _ _ (sym u ∙ s .outcome)) (s .lead ∙ ap (λ (n : ℕ). first line n x) v) (s .reset)))
 
--- ---- a script
+-- ---- the lines of a script
 
-pub seven-eight : NoReset ≢ LongScriptLine
+seven-eight : NoReset ≢ LongScriptLine
 seven-eight z = let y : _≡_ {A = ℕ} 7 8 = ap numberOf z in absurd (omega arith)
 
 lead-line : (line place : ℕ) (ts : List (List ℕ)) (m q : ℕ) (c : Parsed) → leadIn line place ts ≡ first m q c → line ≡ m
 unfolding leadIn
 lead-line line place [] m q c e = never (cc)
 lead-line line place (t ∷ ts) m q c e = by (parsedOf t) e (lead-line line (place + 1) ts m q c) where
-  by : (p : Parsed) → leadBy p line place (leadIn line (place + 1) ts) ≡ first m q c → (leadIn line (place + 1) ts ≡ first m q c → line ≡ m) → line ≡ m
+  by : (p : Parsed) → leadBy p line place (leadIn line (place + 1) ts) ≡ first m q c
+      → (leadIn line (place + 1) ts ≡ first m q c → line ≡ m) → line ≡ m
   by parsed.Empty f g = g (unfold leadBy in f)
   by (parsed.Refused r) f g = let z : first line place (parsed.Refused r) ≡ first m q c = unfold leadBy in f in cc
   by (parsed.Taken k) f g = let z : first line place (parsed.Taken k) ≡ first m q c = unfold leadBy in f in cc
@@ -131,110 +143,102 @@ lead-from line (l ∷ ls) m q c e = by (leadIn line 1 (textsOf l)) refl e (lead-
       let w : n ≡ m = cc in
       omega arith
 
-skip-line : (line : ℕ) (l : List ℕ) (ls : List (List ℕ)) → leadIn line 1 (textsOf l) ≡ none → leadFrom line (l ∷ ls) ≡ leadFrom (line + 1) ls
+skip-line : (line : ℕ) (l : List ℕ) (ls : List (List ℕ)) → leadIn line 1 (textsOf l) ≡ none
+    → leadFrom line (l ∷ ls) ≡ leadFrom (line + 1) ls
 unfolding leadFrom orElse
 skip-line line l ls e = rw e refl
 
-take-line : (line : ℕ) (l : List ℕ) (ls : List (List ℕ)) (n q : ℕ) (c : Parsed) → leadIn line 1 (textsOf l) ≡ first n q c → leadFrom line (l ∷ ls) ≡ first n q c
+take-line : (line : ℕ) (l : List ℕ) (ls : List (List ℕ)) (n q : ℕ) (c : Parsed)
+    → leadIn line 1 (textsOf l) ≡ first n q c → leadFrom line (l ∷ ls) ≡ first n q c
 unfolding leadFrom orElse
 take-line line l ls n q c e = rw e refl
 
-begins-first : (x : Lead) (n q : ℕ) (c : Parsed) → x ≡ first n q c → isReset c ≡ true → begins x ≡ true
-unfolding begins
-begins-first x n q c e f = rw e f
+-- ---- after *RST
 
-module _ (capacity : ℕ) where
-  -- after *RST neither 7 nor a script with no command is found
-  begun-none : (ls : List (List ℕ)) (b : Both) → b .begun ≡ true → found.found capacity ls b ≡ found.none → ⊥
-  unfolding found.found
-  begun-none [] b k e = let z : fine ≡ found.none = rw k at e in never (cc)
-  begun-none (l ∷ ls) b k e =
-      begun-none ls (found.afterLine capacity l b) (begun-texts capacity (textsOf l) (gapOf capacity b) (gap-begun capacity b ∙ k))
-      (found-none (lineAnswer capacity l (gapOf capacity b)) _ e .1)
+-- neither 7 nor a script without a command
+abbrev pub AfterReset : Found → Type 0
+AfterReset fine = Unit {0}
+AfterReset noCommand = ⊥
+AfterReset (stop i p r) = r ≢ NoReset
 
-  begun-seven : (ls : List (List ℕ)) (b : Both) (i p : ℕ) → b .begun ≡ true → found.found capacity ls b ≡ stop i p NoReset → ⊥
-  unfolding found.found
-  begun-seven [] b i p k e = end-stop (b .begun) i p NoReset e
-  begun-seven (l ∷ ls) b zero p k e =
-      let f = refused-short capacity l (gapOf capacity b) NoReset p seven-eight (found-here _ _ p NoReset e) .1 in
-      let h : 7 ≤ 3 = begun-number capacity 1 (textsOf l) (gapOf capacity b) NoReset p (gap-begun capacity b ∙ k) f in
-      omega arith
-  begun-seven (l ∷ ls) b (suc i) p k e =
-      begun-seven ls (found.afterLine capacity l b) i p (begun-texts capacity (textsOf l) (gapOf capacity b) (gap-begun capacity b ∙ k))
-      (found-later (lineAnswer capacity l (gapOf capacity b)) _ i p NoReset e .1)
+begun-later : (v : Found) → AfterReset v → AfterReset (later v)
+begun-later fine k = tt
+begun-later noCommand k = absurd k
+begun-later (stop i p r) k = k
 
+small-number : (r : Refusal) → numberOf r ≤ 3 → r ≢ NoReset
+small-number r h e = let y : numberOf r ≡ 7 = ap numberOf e in absurd (omega arith)
+
+begun-found : (model : Model) (ls : List (List ℕ)) (b : Both) → b .begun ≡ true → AfterReset (found model ls b)
+unfolding found
+begun-found model [] b k = rw k tt
+begun-found model (l ∷ ls) b k = by (lineAnswer model l b) refl (begun-found model ls (lineAfter model l b) after) where
+  after : lineAfter model l b .begun ≡ true
+  after = begun-texts model (textsOf l) (gapOf model b) (gap-begun model b ∙ k)
+
+  by : (a : Answer) → lineAnswer model l b ≡ a → AfterReset (found model ls (lineAfter model l b))
+      → AfterReset (foundBy a (found model ls (lineAfter model l b)))
+  by Passed e n = unfold foundBy in begun-later (found model ls (lineAfter model l b)) n
+  by (Refused r p) e n =
+      unfold foundBy in
+      refused-split model l b r p (r ≢ NoReset) e (λ t z q y. seven-eight (sym y ∙ z))
+      (λ t f h. small-number r (begun-number model 1 (textsOf l) (gapOf model b) r p (gap-begun model b ∙ k) f))
+
+-- ---- how it begins
+
+-- Seen from a line number on: with *RST; with another command, where the check stops by 7; with none; or the check
+-- stops
+-- at an over-long line that no command stands before.
+pub data Begins (line : ℕ) (v : Found) (lead : Lead) : Type 0 where
+  withReset : (n q : ℕ) (c : Parsed) → lead ≡ first n q c → isReset c ≡ true → AfterReset v → Begins line v lead
+  withOther : (i p n : ℕ) (c : Parsed) → v ≡ stop i p NoReset → n ≡ line + i → lead ≡ first n p c → isReset c ≡ false
+      → Begins line v lead
+  withNothing : v ≡ noCommand → lead ≡ none → Begins line v lead
+  withLong : (i : ℕ) → v ≡ stop i 0 LongScriptLine → ((n q : ℕ) (c : Parsed) → lead ≡ first n q c → line + i ≤ n)
+      → Begins line v lead
+
+begins-later : (line : ℕ) (v : Found) (lead : Lead) → Begins (line + 1) v lead → Begins line (later v) lead
+begins-later line v lead (withReset n q c u w x) = withReset n q c u w (begun-later v x)
+begins-later line v lead (withOther i p n c e z u w) = withOther (suc i) p n c (ap later e) (omega arith) u w
+begins-later line v lead (withNothing e u) = withNothing (ap later e) u
+begins-later line v lead (withLong i e f) = withLong (suc i) (ap later e) (λ n q c u. omega (arith, f n q c u))
+
+module _ (model : Model) where
   -- a line before *RST that passes
-  line-led : (line : ℕ) (l : List ℕ) (ls : List (List ℕ)) (b : Both) (Goal : Type 0) → b .begun ≡ false → lineAnswer capacity l (gapOf capacity b) ≡ Passed
-      → (leadFrom line (l ∷ ls) ≡ leadFrom (line + 1) ls → found.afterLine capacity l b .begun ≡ false → Goal)
-      → ((q : ℕ) (c : Parsed) → leadFrom line (l ∷ ls) ≡ first line q c → isReset c ≡ true → found.afterLine capacity l b .begun ≡ true → Goal) → Goal
+  line-led : (line : ℕ) (l : List ℕ) (ls : List (List ℕ)) (b : Both) (Goal : Type 0) → b .begun ≡ false
+      → lineAnswer model l b ≡ Passed
+      → (leadFrom line (l ∷ ls) ≡ leadFrom (line + 1) ls → lineAfter model l b .begun ≡ false → Goal)
+      → ((q : ℕ) (c : Parsed) → leadFrom line (l ∷ ls) ≡ first line q c → isReset c ≡ true → lineAfter model l b .begun
+      ≡ true → Goal) → Goal
   line-led line l ls b Goal k e f g =
-      early-passed capacity line Goal 1 (textsOf l) (gapOf capacity b) (gap-begun capacity b ∙ k) (passed-short capacity l (gapOf capacity b) e .1)
+      early-passed model line Goal 1 (textsOf l) (gapOf model b) (gap-begun model b ∙ k) (passed-short model l b e .1)
       (λ u v. f (skip-line line l ls u) v)
       (λ q c u v w. g q c (take-line line l ls line q c u) v w)
 
-  pub led-fine : (line : ℕ) (ls : List (List ℕ)) (b : Both) → b .begun ≡ false → found.found capacity ls b ≡ fine → begins (leadFrom line ls) ≡ true
-  unfolding found.found
-  led-fine line [] b k e = let z : found.none ≡ fine = rw k at e in never (cc)
-  led-fine line (l ∷ ls) b k e =
-      let q = found-fine (lineAnswer capacity l (gapOf capacity b)) (found.found capacity ls (found.afterLine capacity l b)) e in
-      line-led line l ls b (begins (leadFrom line (l ∷ ls)) ≡ true) k (q .0)
-      (λ u v. rw u (led-fine (line + 1) ls (found.afterLine capacity l b) v (q .1)))
-      (λ n c u v w. begins-first _ line n c u v)
-
-  pub led-none : (line : ℕ) (ls : List (List ℕ)) (b : Both) → b .begun ≡ false → found.found capacity ls b ≡ found.none → leadFrom line ls ≡ none
-  unfolding found.found
-  led-none line [] b k e = unfold leadFrom in refl
-  led-none line (l ∷ ls) b k e =
-      let q = found-none (lineAnswer capacity l (gapOf capacity b)) (found.found capacity ls (found.afterLine capacity l b)) e in
-      line-led line l ls b (leadFrom line (l ∷ ls) ≡ none) k (q .0)
-      (λ u v. u ∙ led-none (line + 1) ls (found.afterLine capacity l b) v (q .1))
-      (λ n c u v w. absurd (begun-none ls (found.afterLine capacity l b) w (q .1)))
-
-  pub led-seven : (line : ℕ) (ls : List (List ℕ)) (b : Both) (i p : ℕ) → b .begun ≡ false → found.found capacity ls b ≡ stop i p NoReset
-      → (c : Parsed) × (leadFrom line ls ≡ first (line + i) p c) × (isReset c ≡ false)
-  unfolding found.found
-  led-seven line [] b i p k e = end-stop (b .begun) i p NoReset e
-  led-seven line (l ∷ ls) b zero p k e =
-      let f = refused-short capacity l (gapOf capacity b) NoReset p seven-eight (found-here _ _ p NoReset e) .1 in
-      early-refused capacity line ((c : Parsed) × (leadFrom line (l ∷ ls) ≡ first (line + 0) p c) × (isReset c ≡ false)) 1 (textsOf l) (gapOf capacity b)
-      NoReset p (gap-begun capacity b ∙ k) f
-      (λ c u v w. let z : line ≡ line + 0 = omega arith in (c, take-line line l ls line p c v ∙ ap (λ (n : ℕ). first n p c) z, w))
-      (λ q c u v w. let h : 7 ≤ 3 = w in absurd (omega arith))
-  led-seven line (l ∷ ls) b (suc i) p k e =
-      let q = found-later (lineAnswer capacity l (gapOf capacity b)) (found.found capacity ls (found.afterLine capacity l b)) i p NoReset e in
-      line-led line l ls b ((c : Parsed) × (leadFrom line (l ∷ ls) ≡ first (line + suc i) p c) × (isReset c ≡ false)) k (q .0)
-      (λ u v.
-      let n = led-seven (line + 1) ls (found.afterLine capacity l b) i p v (q .1) in
-      let z : line + 1 + i ≡ line + suc i = omega arith in
-      (n .0, u ∙ (n .1 ∙ ap (λ (m : ℕ). first m p (n .0)) z), n .2))
-      (λ n c u v w. absurd (begun-seven ls (found.afterLine capacity l b) i p w (q .1)))
-
-  pub led-other : (line : ℕ) (ls : List (List ℕ)) (b : Both) (i p : ℕ) (r : Refusal) → b .begun ≡ false → found.found capacity ls b ≡ stop i p r
-      → r ≢ NoReset → r ≢ LongScriptLine → begins (leadFrom line ls) ≡ true
-  unfolding found.found
-  led-other line [] b i p r k e x y = end-stop (b .begun) i p r e
-  led-other line (l ∷ ls) b zero p r k e x y =
-      let f = refused-short capacity l (gapOf capacity b) r p y (found-here _ _ p r e) .1 in
-      early-refused capacity line (begins (leadFrom line (l ∷ ls)) ≡ true) 1 (textsOf l) (gapOf capacity b) r p (gap-begun capacity b ∙ k) f
-      (λ c u v w. absurd (x u))
-      (λ q c u v w. begins-first _ line q c (take-line line l ls line q c u) v)
-  led-other line (l ∷ ls) b (suc i) p r k e x y =
-      let q = found-later (lineAnswer capacity l (gapOf capacity b)) (found.found capacity ls (found.afterLine capacity l b)) i p r e in
-      line-led line l ls b (begins (leadFrom line (l ∷ ls)) ≡ true) k (q .0)
-      (λ u v. rw u (led-other (line + 1) ls (found.afterLine capacity l b) i p r v (q .1) x y))
-      (λ n c u v w. begins-first _ line n c u v)
-
-  -- a first command on a line before the one where the check stops is *RST
-  pub led-before : (line : ℕ) (ls : List (List ℕ)) (b : Both) (i p : ℕ) (r : Refusal) → b .begun ≡ false → found.found capacity ls b ≡ stop i p r
-      → (m q : ℕ) (c : Parsed) → leadFrom line ls ≡ first m q c → m < line + i → isReset c ≡ true
-  unfolding found.found
-  led-before line [] b i p r k e m q c f h = end-stop (b .begun) i p r e
-  led-before line (l ∷ ls) b zero p r k e m q c f h = absurd (omega (arith, lead-from line (l ∷ ls) m q c f))
-  led-before line (l ∷ ls) b (suc i) p r k e m q c f h =
-      let y = found-later (lineAnswer capacity l (gapOf capacity b)) (found.found capacity ls (found.afterLine capacity l b)) i p r e in
-      line-led line l ls b (isReset c ≡ true) k (y .0)
-      (λ u v. led-before (line + 1) ls (found.afterLine capacity l b) i p r v (y .1) m q c (sym u ∙ f) (omega arith))
-      (λ n d u v w.
-      let z : first line n d ≡ first m q c = sym u ∙ f in
-      let x : d ≡ c = cc in
-      rw (sym x) v)
+  pub begins-found : (line : ℕ) (ls : List (List ℕ)) (b : Both) → b .begun ≡ false
+      → Begins line (found model ls b) (leadFrom line ls)
+  unfolding found
+  begins-found line [] b k = rw k (withNothing refl (unfold leadFrom in refl))
+  begins-found line (l ∷ ls) b k =
+      by (lineAnswer model l b) refl (begins-found (line + 1) ls (lineAfter model l b))
+    where
+      by : (a : Answer) → lineAnswer model l b ≡ a
+          → (lineAfter model l b .begun ≡ false → Begins (line + 1) (found model ls (lineAfter model l b))
+          (leadFrom (line + 1) ls))
+          → Begins line (foundBy a (found model ls (lineAfter model l b))) (leadFrom line (l ∷ ls))
+      by Passed e next =
+          unfold foundBy in
+          line-led line l ls b _ k e
+          (λ u v. rw u (begins-later line (found model ls (lineAfter model l b)) (leadFrom (line + 1) ls) (next v)))
+          (λ q c u v w.
+          withReset line q c u v
+          (begun-later (found model ls (lineAfter model l b)) (begun-found model ls (lineAfter model l b) w)))
+      by (Refused r p) e next =
+          unfold foundBy in
+          refused-split model l b r p _ e
+          (λ t z y.
+          withLong 0 (rw (z, y) refl) (λ n q c u. omega (arith, lead-from line (l ∷ ls) n q c u)))
+          (λ t f h.
+          early-refused model line _ 1 (textsOf l) (gapOf model b) r p (gap-begun model b ∙ k) f
+          (λ c z u v. withOther 0 p line c (rw z refl) (omega arith) (take-line line l ls line p c u) v)
+          (λ q c u v w. withReset line q c (take-line line l ls line q c u) v (small-number r w)))

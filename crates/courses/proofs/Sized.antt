@@ -21,7 +21,8 @@ use Rattle.storage.specs.declared.Storage.{Storage}
 use Rattle.storage.specs.declared.Sampling.{Sampling}
 use Rattle.storage.specs.declared.Sampled.{Sampled}
 use Rattle.status.specs.Bits.{withoutBit, withBit}
-use Rattle.status.specs.Status.{registerOf, withRegister, clearedOf, bitCleared, allCleared, withStandard, withLia, enableOf, withEnableByte, withEnable, withEnableBit}
+use Rattle.status.specs.Status.{registerOf, withRegister, clearedOf, bitCleared, allCleared, withStandard, withLia, enableOf}
+use Rattle.status.specs.Status.{withEnableByte, withEnable, withEnableBit}
 use Rattle.status.specs.declared.Registers.{Registers}
 use Rattle.status.specs.declared.Enables.{Enables}
 use Rattle.name.specs.declared.Register.{Register}
@@ -37,7 +38,8 @@ use Rattle.command.specs.declared.Kind.the-variants.{Set, Query, Act}
 use Rattle.state.specs.State.{withRegisters, samplingOf, detectionNow, crossedFrom, markedBy}
 use Rattle.state.specs.Storing.{triggerOf, sampledBy}
 use Rattle.state.specs.declared.State.{State}
-use Rattle.change.specs.Change.{withPair, setIn, restoredBy, settingsAfter, storageBy, storageAfter, registersAsked, registersBy, registersAfter, enablesSet, enablesAfter, changedBy, stateAfter}
+use Rattle.change.specs.Change.{withPair, setIn, restoredBy, settingsAfter, storageBy, storageAfter, registersAsked}
+use Rattle.change.specs.Change.{registersBy, registersAfter, enablesSet, enablesAfter, changedBy, stateAfter}
 use Rattle.change.specs.Change as change
 use Rattle.event.specs.Event.{takesFrequency, withExternal, notTaken, measuredBy, sampledIn, eventOf}
 use Rattle.event.specs.declared.Event.the-variants as event

@@ -1,5 +1,6 @@
--- Every course against what the check finds: where it finds nothing every line passes; where it stops, every line before passes and none is refused earlier.
-use Prim.Native.Nat.{ℕ, zero, suc, _≤_, _<_}
+-- Every course against what the check finds: each line that it passes passes, and the line where it stops has no
+-- refusal at an earlier place.
+use Prim.Native.Nat.{ℕ, zero, suc, _≤_}
 use native.Mathlib.Omega.{arith}
 use mathlib.Core.Bool.{Bool, true, false, cond, and-eq-true-iff}
 use mathlib.Core.Path.{_≡_, refl, sym, ap, _∙_}
@@ -7,28 +8,30 @@ use mathlib.Core.List.{List, [], _∷_}
 use lib.ListN.{length}
 use borrow.Author.Tests.{ltb-true, ltb-false, le-leb, lt-leb}
 use Rattle.refusal.specs.declared.Refusal.{Refusal}
-use Rattle.refusal.specs.declared.Refusal.the-variants.{LongLine, LongScriptLine, BadState}
+use Rattle.refusal.specs.declared.Refusal.the-variants.{LongLine, BadState}
 use Rattle.refusal.specs.declared.Outcome.{Outcome}
 use Rattle.refusal.specs.declared.Outcome.the-variants as outcome
 use Rattle.state.specs.Allowed.{allowedState}
 use Rattle.state.specs.declared.State.{State}
 use Rattle.event.specs.Event.{eventOf}
 use Rattle.event.specs.declared.Event.{Event}
-use Rattle.line.specs.Line.{startLine, lineOf}
+use Rattle.line.specs.Line.{Line, startLine, lineOf}
 use Rattle.clean.specs.Texts.{textsOf}
 use Rattle.refusal.specs.declared.Answer.the-variants.{Passed, Refused}
 use Rattle.module.specs.Module.{allowedModule, guardOf}
 use Rattle.lockin.specs.Calls.{guarded, wholeLine, lineCall, guardedEvent, eventCall}
+use Rattle.two_courses.specs.declared.Model.{Model}
 use Rattle.two_courses.specs.Courses.{gapOf}
 use Rattle.two_courses.specs.declared.Both.{Both}
-use Rattle.script.specs.Check.{textsAnswer, textsAfter, tooLong}
+use Rattle.script.specs.Check.{tooLong, lineAnswer, lineAfter, stop, found}
 use Rattle.demands.proofs.States.{states-stay}
 use Rattle.demands.proofs.StaysAllowed.{stays-allowed}
-use Rattle.courses.specs.Course.{World, lineIn, afterLine, afterEvent, afterEvents, Gap, Gaps, before, after, crowded, Roomy, answerOf}
+use Rattle.courses.specs.Course.{World, lineIn, afterLine, afterEvent, afterEvents, Gap, Gaps, before, after}
+use Rattle.courses.specs.Course.{crowded, Roomy, answerOf}
 use Rattle.courses.proofs.Gap.{Ready, Within, gap-ready, event-within}
-use Rattle.courses.proofs.Found as found
-use Rattle.courses.proofs.Found.{fine, stop, lineAnswer, not-passed, not-done, found-fine, found-here, found-later}
+use Rattle.courses.proofs.Found.{not-passed, not-done, found-here, found-later, Passes, passes-here, passes-next}
 use Rattle.courses.proofs.Commands.{Sim, run-passed, run-earlier}
+use Rattle.courses.proofs.Long.{passed-short, refused-split}
 
 -- neither 11 nor 9 refuses a call
 abbrev pub Open : World → Type 0
@@ -57,7 +60,8 @@ module _ (w : World) (o : Open w) where
 
   pub line-short : (room : ℕ) (l : List ℕ) → tooLong l ≡ false →
       let ran = lineOf room l (w .core .state) (w .one) (w .two) in
-      (lineIn room l w .told .answer ≡ ran .answer) × (afterLine room l w .core .state ≡ ran .state) × (crowded room l w ≡ ran .dropped)
+      (lineIn room l w .told .answer ≡ ran .answer) × (afterLine room l w .core .state ≡ ran .state)
+      × (crowded room l w ≡ ran .dropped)
   unfolding afterLine lineCall guarded wholeLine crowded
   line-short room l e = rw (o, le-leb (length l) 256 (ltb-false 256 (length l) e)) (refl, refl, refl)
 
@@ -79,107 +83,87 @@ events-same (e ∷ es) w o =
     events-same es (afterEvent e w) (event-open w o e)
     ∙ (ap (λ (s : State). s .unit) (event-is w o e) ∙ states-stay .event e (w .core .state) (w .one) (w .two) .unit)
 
-events-within : (capacity : ℕ) (b : Both) → Ready (b .settings) (b .high) → (es : List Event) (w : World) → Open w
-    → Within capacity (b .settings) (b .low) (b .high) (w .core .state) → Within capacity (b .settings) (b .low) (b .high) (afterEvents es w .core .state)
+events-within : (model : Model) (b : Both) → Ready (b .settings) (b .high) → (es : List Event) (w : World) → Open w
+    → Within model (b .settings) (b .low) (b .high) (w .core .state)
+    → Within model (b .settings) (b .low) (b .high) (afterEvents es w .core .state)
 unfolding afterEvents
-events-within capacity b r [] w o k = k
-events-within capacity b r (e ∷ es) w o k =
-    events-within capacity b r es (afterEvent e w) (event-open w o e)
-    (rw (event-is w o e) (event-within capacity (b .settings) (b .low) (b .high) r (w .core .state) k e (w .one) (w .two)))
+events-within model b r [] w o k = k
+events-within model b r (e ∷ es) w o k =
+    let n = event-within model (b .settings) (b .low) (b .high) r (w .core .state) k e (w .one) (w .two) in
+    events-within model b r es (afterEvent e w) (event-open w o e) (rw (event-is w o e) n)
 
-sim-gap : (capacity : ℕ) (b : Both) (es : List Event) (w : World) → Open w → Sim capacity b (w .core .state)
-    → Sim capacity (gapOf capacity b) (afterEvents es w .core .state)
+sim-gap : (model : Model) (b : Both) (es : List Event) (w : World) → Open w → Sim model b (w .core .state)
+    → Sim model (gapOf model b) (afterEvents es w .core .state)
 unfolding gapOf
-sim-gap capacity b es w o i =
+sim-gap model b es w o i =
     record {
       same = rw (events-same es w o) (i .same);
       begun = λ e.
           let k = i .begun e in
-          let g = gap-ready capacity (b .settings) (w .core .state .moving) (b .low) (b .high) (k .between) in
-          events-within capacity (gapOf capacity b) (unfold gapOf in g .1) es w o (unfold gapOf in record { same = k .same; alike = k .alike; between = g .0 });
+          let g = gap-ready (model .capacity) (b .settings) (w .core .state .moving) (b .low) (b .high) (k .between) in
+          events-within model (gapOf model b) (unfold gapOf in g .1) es w o
+          (unfold gapOf in record { same = k .same; alike = k .alike; between = g .0 });
     }
 
--- ---- lines
+-- ---- a line of a course, with its events
 
-module _ (capacity : ℕ) (b : Both) (w : World) (o : Open w) (i : Sim capacity b (w .core .state)) (room : ℕ) (l : List ℕ) (c : crowded room l w ≡ false) where
-  line-passed : lineAnswer capacity l b ≡ Passed
-      → (lineIn room l w .told .answer ≡ Passed) × Sim capacity (textsAfter capacity (textsOf l) b) (afterLine room l w .core .state)
-  unfolding lineAnswer lineOf
-  line-passed = by (tooLong l) refl where
-    by : (t : Bool) → tooLong l ≡ t → cond t (Refused LongScriptLine 0) (textsAnswer capacity 1 (textsOf l) b) ≡ Passed
-        → (lineIn room l w .told .answer ≡ Passed) × Sim capacity (textsAfter capacity (textsOf l) b) (afterLine room l w .core .state)
-    by true e f = not-passed LongScriptLine 0 f
-    by false e f =
-        let s = line-short w o room l e in
-        let d : lineOf room l (w .core .state) (w .one) (w .two) .dropped ≡ false = sym (s .2) ∙ c in
-        let k = run-passed capacity room (textsOf l) (startLine (w .core .state) (w .one) (w .two)) b i refl d f in
-        rw (s .0, s .1) k
-
-  line-earlier : (r s : Refusal) (p q : ℕ) → lineAnswer capacity l b ≡ Refused r p → lineIn room l w .told .answer ≡ Refused s q → p ≤ q
-  unfolding lineAnswer lineOf
-  line-earlier r s p q = by (tooLong l) refl where
-    by : (t : Bool) → tooLong l ≡ t → cond t (Refused LongScriptLine 0) (textsAnswer capacity 1 (textsOf l) b) ≡ Refused r p
-        → lineIn room l w .told .answer ≡ Refused s q → p ≤ q
-    by true e f g = let z : 0 ≡ p = cc in omega arith
-    by false e f g =
-        let h = line-short w o room l e in
-        let d : lineOf room l (w .core .state) (w .one) (w .two) .dropped ≡ false = sym (h .2) ∙ c in
-        let a : lineOf room l (w .core .state) (w .one) (w .two) .answer ≡ Refused s q = sym (h .0) ∙ g in
-        run-earlier capacity room (textsOf l) (startLine (w .core .state) (w .one) (w .two)) b r s p q i refl d f a
-
--- ---- scripts
-
--- where a course is at a line, and behind it
-module _ (capacity : ℕ) (b : Both) (w : World) (o : Open w) (i : Sim capacity b (w .core .state)) (g : Gap) (l : List ℕ)
+module _ (model : Model) (b : Both) (w : World) (o : Open w) (i : Sim model b (w .core .state)) (g : Gap) (l : List ℕ)
     (c : crowded (g .room) l (before g w) ≡ false)
   where
     open-before : Open (before g w)
     open-before = events-open (g .events) w o
 
-    sim-before : Sim capacity (gapOf capacity b) (before g w .core .state)
-    sim-before = sim-gap capacity b (g .events) w o i
-
     open-after : Open (after g l w)
     open-after = line-open (before g w) open-before (g .room) l
 
-    next-passed : lineAnswer capacity l (gapOf capacity b) ≡ Passed
-        → (lineIn (g .room) l (before g w) .told .answer ≡ Passed) × Sim capacity (found.afterLine capacity l b) (after g l w .core .state)
-    next-passed = line-passed capacity (gapOf capacity b) (before g w) open-before sim-before (g .room) l c
+    abbrev begin : Line
+    begin = startLine (before g w .core .state) (before g w .one) (before g w .two)
 
-    next-earlier : (r s : Refusal) (p q : ℕ) → lineAnswer capacity l (gapOf capacity b) ≡ Refused r p
+    sim-before : Sim model (gapOf model b) (begin .state)
+    sim-before = sim-gap model b (g .events) w o i
+
+    next-passed : lineAnswer model l b ≡ Passed
+        → (lineIn (g .room) l (before g w) .told .answer ≡ Passed)
+        × Sim model (lineAfter model l b) (after g l w .core .state)
+    unfolding lineOf
+    next-passed e =
+        let p = passed-short model l b e in
+        let s = line-short (before g w) open-before (g .room) l (p .0) in
+        rw (s .0, s .1)
+        (run-passed model (g .room) (textsOf l) begin (gapOf model b) sim-before refl (sym (s .2) ∙ c) (p .1))
+
+    next-earlier : (r s : Refusal) (p q : ℕ) → lineAnswer model l b ≡ Refused r p
         → lineIn (g .room) l (before g w) .told .answer ≡ Refused s q → p ≤ q
-    next-earlier = line-earlier capacity (gapOf capacity b) (before g w) open-before sim-before (g .room) l c
+    unfolding lineOf
+    next-earlier r s p q e f =
+        refused-split model l b r p (p ≤ q) e (λ t z y. omega arith)
+        (λ t y z.
+        let h = line-short (before g w) open-before (g .room) l t in
+        run-earlier model (g .room) (textsOf l) begin (gapOf model b) r s p q sim-before refl (sym (h .2) ∙ c) y
+        (sym (h .0) ∙ f))
 
-pub script-fine : (capacity : ℕ) (ls : List (List ℕ)) (b : Both) (w : World) (g : Gaps ls) → Open w → Sim capacity b (w .core .state) → Roomy ls g w
-    → found.found capacity ls b ≡ fine → (n : ℕ) → answerOf ls g w n ≡ Passed
-unfolding found.found answerOf
-script-fine capacity [] b w g o i c e n = refl
-script-fine capacity (l ∷ ls) b w g o i c e zero = next-passed capacity b w o i (g .0) l (c .0) (found-fine _ _ e .0) .0
-script-fine capacity (l ∷ ls) b w g o i c e (suc n) =
-    let q = found-fine (lineAnswer capacity l (gapOf capacity b)) (found.found capacity ls (found.afterLine capacity l b)) e in
-    let k = next-passed capacity b w o i (g .0) l (c .0) (q .0) in
-    script-fine capacity ls (found.afterLine capacity l b) (after (g .0) l w) (g .1) (open-after capacity b w o i (g .0) l (c .0)) (k .1) (c .1) (q .1) n
+-- ---- scripts
 
-pub script-before : (capacity : ℕ) (ls : List (List ℕ)) (b : Both) (w : World) (g : Gaps ls) → Open w → Sim capacity b (w .core .state) → Roomy ls g w
-    → (k p : ℕ) (r : Refusal) → found.found capacity ls b ≡ stop k p r → (n : ℕ) → n < k → answerOf ls g w n ≡ Passed
-unfolding found.found answerOf
-script-before capacity [] b w g o i c k p r e n h = refl
-script-before capacity (l ∷ ls) b w g o i c zero p r e n h = absurd (omega arith)
-script-before capacity (l ∷ ls) b w g o i c (suc k) p r e zero h =
-    next-passed capacity b w o i (g .0) l (c .0) (found-later _ _ k p r e .0) .0
-script-before capacity (l ∷ ls) b w g o i c (suc k) p r e (suc n) h =
-    let q = found-later (lineAnswer capacity l (gapOf capacity b)) (found.found capacity ls (found.afterLine capacity l b)) k p r e in
-    let m = next-passed capacity b w o i (g .0) l (c .0) (q .0) in
-    script-before capacity ls (found.afterLine capacity l b) (after (g .0) l w) (g .1) (open-after capacity b w o i (g .0) l (c .0)) (m .1) (c .1) k p r (q .1) n
-    (omega arith)
+pub script-passes : (model : Model) (ls : List (List ℕ)) (b : Both) (w : World) (g : Gaps ls) → Open w
+    → Sim model b (w .core .state) → Roomy ls g w → (n : ℕ) → Passes (found model ls b) n → answerOf ls g w n ≡ Passed
+unfolding answerOf
+script-passes model [] b w g o i c n h = refl
+script-passes model (l ∷ ls) b w g o i c zero h =
+    next-passed model b w o i (g .0) l (c .0) (passes-here model l ls b zero h) .0
+script-passes model (l ∷ ls) b w g o i c (suc n) h =
+    let k = next-passed model b w o i (g .0) l (c .0) (passes-here model l ls b (suc n) h) in
+    script-passes model ls (lineAfter model l b) (after (g .0) l w) (g .1) (open-after model b w o i (g .0) l (c .0))
+    (k .1) (c .1) n (passes-next model l ls b n h)
 
-pub script-earlier : (capacity : ℕ) (ls : List (List ℕ)) (b : Both) (w : World) (g : Gaps ls) → Open w → Sim capacity b (w .core .state) → Roomy ls g w
-    → (k p : ℕ) (r : Refusal) → found.found capacity ls b ≡ stop k p r → (q : ℕ) (s : Refusal) → answerOf ls g w k ≡ Refused s q → p ≤ q
-unfolding found.found answerOf
-script-earlier capacity [] b w g o i c k p r e q s f = not-passed s q (sym f)
-script-earlier capacity (l ∷ ls) b w g o i c zero p r e q s f =
-    next-earlier capacity b w o i (g .0) l (c .0) r s p q (found-here _ _ p r e) f
-script-earlier capacity (l ∷ ls) b w g o i c (suc k) p r e q s f =
-    let y = found-later (lineAnswer capacity l (gapOf capacity b)) (found.found capacity ls (found.afterLine capacity l b)) k p r e in
-    let m = next-passed capacity b w o i (g .0) l (c .0) (y .0) in
-    script-earlier capacity ls (found.afterLine capacity l b) (after (g .0) l w) (g .1) (open-after capacity b w o i (g .0) l (c .0)) (m .1) (c .1) k p r (y .1) q s f
+pub script-earlier : (model : Model) (ls : List (List ℕ)) (b : Both) (w : World) (g : Gaps ls) → Open w
+    → Sim model b (w .core .state) → Roomy ls g w → (k p : ℕ) (r : Refusal) → found model ls b ≡ stop k p r
+    → (q : ℕ) (s : Refusal) → answerOf ls g w k ≡ Refused s q → p ≤ q
+unfolding answerOf
+script-earlier model [] b w g o i c k p r e q s f = not-passed s q (sym f)
+script-earlier model (l ∷ ls) b w g o i c zero p r e q s f =
+    next-earlier model b w o i (g .0) l (c .0) r s p q (found-here model l ls b p r e) f
+script-earlier model (l ∷ ls) b w g o i c (suc k) p r e q s f =
+    let y = found-later model l ls b (stop k p r) e in
+    let m = next-passed model b w o i (g .0) l (c .0) (y .0) in
+    script-earlier model ls (lineAfter model l b) (after (g .0) l w) (g .1) (open-after model b w o i (g .0) l (c .0))
+    (m .1) (c .1) k p r (y .1) q s f

@@ -1,95 +1,99 @@
 -- Demand 3, proved.
-use Prim.Native.Nat.{ℕ, zero, suc, _+_, _≤_, _<_}
+use Prim.Native.Nat.{ℕ, zero, suc, _≤_, _<_}
 use native.Mathlib.Omega.{arith}
 use mathlib.Core.Bool.{Bool, true, false, false≢true}
 use mathlib.Core.Path.{_≡_, refl, sym, ap, _∙_}
 use mathlib.Core.Logic.{_≢_, _↔_}
 use mathlib.Core.List.{List, [], _∷_}
-use lib.Dec.{leb, ltb, eqb}
+use lib.Dec.{ltb}
 use lib.ListN.{length, getD, length-replicate}
-use borrow.Author.Tests.{eq-eqb, eqb-true, eqb-false, ltb-true, ltb-false, leb-true, leb-false}
+use borrow.Author.Tests.{eq-eqb, ltb-true, ltb-false}
 use Rattle.refusal.specs.declared.Refusal.{Refusal}
 use Rattle.refusal.specs.declared.Refusal.the-variants.{LongLine, NoReset, LongScriptLine, BadTraces}
-use Rattle.refusal.proofs.Every.{same-refusal}
 use Rattle.refusal.specs.declared.Outcome.the-variants as outcome
 use Rattle.command.specs.declared.Parsed.{Parsed}
 use Rattle.state.specs.State.{startState}
 use Rattle.refusal.specs.declared.Answer.the-variants.{Passed, Refused}
 use Rattle.module.specs.Start.{freshModule}
 use Rattle.module.specs.Module.{allowedModule, guardOf}
+use Rattle.two_courses.specs.Model.{OfModel, modelFits}
+use Rattle.two_courses.specs.declared.Model.{Model}
 use Rattle.two_courses.specs.Courses.{startBoth}
-use Rattle.script.specs.Check.{tooLong, linesOf, capacityFits, checkOf}
+use Rattle.script.specs.Check.{tooLong, Found, fine, noCommand, stop, found, lineNumber, verdictOf, linesOf, checkOf}
 use Rattle.verdict.specs.declared.Verdict.{Verdict}
 use Rattle.verdict.specs.declared.Verdict.the-variants.{Fine, No}
 use Rattle.demands.proofs.StaysAllowed.{stays-allowed}
-use Rattle.courses.specs.Course.{World, StartAnswers, Startable, freshWorld, before, after, Gaps, Course, answerOf, answers}
-use Rattle.courses.specs.Demand3.{lineAt, Short, first, leadOf, isReset, begins, AllPass, FirstRefused, NotBegun, other, nothing, LongAt, Demand3}
-use Rattle.courses.specs.Demand3 as demand
+use Rattle.courses.specs.Course.{World, StartAnswers, Startable, freshWorld, before, after, Gaps, Course}
+use Rattle.courses.specs.Course.{answerOf, answers}
+use Rattle.courses.specs.Demand3.{lineAt, Short, none, first, leadOf, isReset, begins, AllPass, FirstRefused}
+use Rattle.courses.specs.Demand3.{NotBegun, other, nothing, LongAt, Demand3}
 use Rattle.courses.proofs.Alike.{alike-self}
-use Rattle.courses.proofs.Found as found
-use Rattle.courses.proofs.Found.{Found, fine, none, stop, numbered, verdict-is, never, not-passed}
+use Rattle.courses.proofs.Found.{never, not-passed}
 use Rattle.courses.proofs.Commands.{Sim}
-use Rattle.courses.proofs.Sound.{Open, line-open, line-long, events-open, script-fine, script-before, script-earlier}
+use Rattle.courses.proofs.Sound.{Open, line-open, line-long, events-open, script-passes, script-earlier}
 use Rattle.courses.proofs.Witness.{Side, low, high, At}
 use Rattle.courses.proofs.Fresh.{fits-start, unfit-start, start-fits, start-unfit, fresh-core, fresh-fits}
 use Rattle.courses.proofs.Sized.{Sized}
 use Rattle.courses.proofs.Reached.{gapsFor, gaps-roomy, gaps-fit, reached}
-use Rattle.courses.proofs.Long.{numberOf, short-fine, short-none, short-before, short-here, long-here, stop-number}
-use Rattle.courses.proofs.Led.{seven-eight, led-fine, led-none, led-seven, led-other, led-before}
+use Rattle.courses.proofs.Long.{numberOf, short-passes, stop-split}
+use Rattle.courses.proofs.Led.{Begins, withReset, withOther, withNothing, withLong, begins-found}
 
 -- ---- any course, where the check begins
 
-world-open : (capacity : ℕ) (w : World) → allowedModule (w .core) ≡ true → w .core .state .unit .capacity ≡ capacity
-    → length (w .one) ≡ capacity → length (w .two) ≡ capacity → Open w
+world-open : (model : Model) (w : World) → allowedModule (w .core) ≡ true → OfModel model (w .core .state .unit)
+    → length (w .one) ≡ model .capacity → length (w .two) ≡ model .capacity → Open w
 unfolding guardOf
-world-open capacity w a t f s = rw (a, t, f, s, eq-eqb capacity capacity refl) refl
+world-open model w a t f s = rw (a, t .capacity, f, s, eq-eqb (model .capacity) (model .capacity) refl) refl
 
-module _ (capacity : ℕ) (lines : List (List ℕ)) (k : Course capacity lines) where
-  course-sim : Sim capacity startBoth (k .start .core .state)
+module _ (model : Model) (lines : List (List ℕ)) (k : Course model lines) where
+  course-sim : Sim model startBoth (k .start .core .state)
   course-sim = record { same = k .told; begun = λ e. absurd (false≢true e) }
 
   course-open : Open (k .start)
-  course-open = world-open capacity (k .start) (k .allowed) (k .told) (k .first) (k .second)
+  course-open = world-open model (k .start) (k .allowed) (k .told) (k .first) (k .second)
 
 -- ---- the check's two courses, from a fresh module
 
-module _ (capacity : ℕ) (fits : capacityFits capacity ≡ true) where
-  fresh-at : (d : Side) → At d capacity startBoth (freshWorld capacity .core .state)
+module _ (model : Model) (fits : modelFits model ≡ true) where
+  fresh-at : (d : Side) → At d model startBoth (freshWorld model .core .state)
   fresh-at low =
-      rw (fresh-core capacity fits)
-      (unfold freshModule startState in record { same = refl; alike = alike-self _; moving = refl })
+      rw (fresh-core model fits)
+      (unfold freshModule startState in record
+      { same = record { capacity = refl }; alike = alike-self _; moving = refl })
   fresh-at high =
-      rw (fresh-core capacity fits)
-      (unfold freshModule startState in record { same = refl; alike = alike-self _; moving = refl })
+      rw (fresh-core model fits)
+      (unfold freshModule startState in record
+      { same = record { capacity = refl }; alike = alike-self _; moving = refl })
 
-  fresh-open : Open (freshWorld capacity)
+  fresh-open : Open (freshWorld model)
   unfolding freshWorld
   fresh-open =
-      world-open capacity (freshWorld capacity) (stays-allowed .start 0 1 capacity capacity) (fresh-at low .same)
-      (length-replicate capacity 0) (length-replicate capacity 0)
+      world-open model (freshWorld model) (stays-allowed .start 0 1 (model .capacity) (model .capacity))
+      (fresh-at low .same)
+      (length-replicate (model .capacity) 0) (length-replicate (model .capacity) 0)
 
-  fresh-sized : Sized (freshWorld capacity .core .state)
+  fresh-sized : Sized (freshWorld model .core .state)
   fresh-sized =
-      let k = fresh-fits capacity fits .core .state in
+      let k = fresh-fits model fits .core .state in
       record { full = k .full; registers = k .registers; enables = k .enables }
 
-  course-of : (d : Side) (lines : List (List ℕ)) → Course capacity lines
+  course-of : (d : Side) (lines : List (List ℕ)) → Course model lines
   unfolding freshWorld
   course-of d lines =
       record {
-        start = freshWorld capacity;
-        allowed = stays-allowed .start 0 1 capacity capacity;
+        start = freshWorld model;
+        allowed = stays-allowed .start 0 1 (model .capacity) (model .capacity);
         told = fresh-at d .same;
-        first = length-replicate capacity 0;
-        second = length-replicate capacity 0;
-        fits = fresh-fits capacity fits;
-        gaps = gapsFor d capacity lines startBoth;
-        gaps-fit = gaps-fit d capacity lines startBoth;
-        rooms = gaps-roomy d capacity lines startBoth (freshWorld capacity) fresh-open fresh-sized;
+        first = length-replicate (model .capacity) 0;
+        second = length-replicate (model .capacity) 0;
+        fits = fresh-fits model fits;
+        gaps = gapsFor d model lines startBoth;
+        gaps-fit = gaps-fit d model lines startBoth;
+        rooms = gaps-roomy d model lines startBoth (freshWorld model) fresh-open fresh-sized;
       }
 
   -- it starts so
-  course-fresh : (d : Side) (lines : List (List ℕ)) → course-of d lines .start ≡ freshWorld capacity
+  course-fresh : (d : Side) (lines : List (List ℕ)) → course-of d lines .start ≡ freshWorld model
   unfolding course-of
   course-fresh d lines = refl
 
@@ -99,21 +103,17 @@ bool-split : (t : Bool) (Goal : Type 0) → (t ≡ true → Goal) → (t ≡ fal
 bool-split true G f g = f refl
 bool-split false G f g = g refl
 
-found-split : (v : Found) (Goal : Type 0) → (v ≡ fine → Goal) → (v ≡ none → Goal) → ((i p : ℕ) (r : Refusal) → v ≡ stop i p r → Goal) → Goal
+found-split : (v : Found) (Goal : Type 0) → (v ≡ fine → Goal) → (v ≡ noCommand → Goal)
+    → ((i p : ℕ) (r : Refusal) → v ≡ stop i p r → Goal) → Goal
 found-split fine G f g h = f refl
-found-split none G f g h = g refl
+found-split noCommand G f g h = g refl
 found-split (stop i p r) G f g h = h i p r refl
 
 apart : (r s : Refusal) → (numberOf r ≡ numberOf s → ⊥) → r ≢ s
 apart r s n e = n (ap numberOf e)
 
--- 7, 8, or another
-refusal-split : (r : Refusal) (Goal : Type 0) → (r ≡ NoReset → Goal) → (r ≡ LongScriptLine → Goal) →
-    (r ≢ NoReset → r ≢ LongScriptLine → Goal) → Goal
-refusal-split r G f g h =
-    bool-split (eqb (numberOf r) 7) G (λ e. f (same-refusal r NoReset (eqb-true _ 7 e)))
-    (λ e. bool-split (eqb (numberOf r) 8) G (λ d. g (same-refusal r LongScriptLine (eqb-true _ 8 d)))
-    (λ d. h (apart r NoReset (eqb-false _ 7 e)) (apart r LongScriptLine (eqb-false _ 8 d))))
+seven-eight : NoReset ≢ LongScriptLine
+seven-eight = apart NoReset LongScriptLine (λ e. omega arith)
 
 order-split : (i j : ℕ) (Goal : Type 0) → (i < j → Goal) → (i ≡ j → Goal) → (j < i → Goal) → Goal
 order-split i j G f g h =
@@ -122,42 +122,45 @@ order-split i j G f g h =
 
 -- ---- what the check says, by what it finds
 
-check-fits : (capacity : ℕ) (script : List ℕ) → capacityFits capacity ≡ true → checkOf capacity script ≡ numbered 1 (found.found capacity (linesOf script) startBoth)
+check-fits : (model : Model) (script : List ℕ) → modelFits model ≡ true
+    → checkOf model script ≡ verdictOf (found model (linesOf script) startBoth)
 unfolding checkOf
-check-fits capacity script e = rw e (verdict-is capacity 1 (linesOf script) startBoth)
+check-fits model script e = rw e refl
 
-check-unfit : (capacity : ℕ) (script : List ℕ) → capacityFits capacity ≡ false → checkOf capacity script ≡ No 0 0 BadTraces
+check-unfit : (model : Model) (script : List ℕ) → modelFits model ≡ false → checkOf model script ≡ No 0 0 BadTraces
 unfolding checkOf
-check-unfit capacity script e = rw e refl
+check-unfit model script e = rw e refl
 
-numbered-fine : (v : Found) → numbered 1 v ≡ Fine → v ≡ fine
-numbered-fine fine e = refl
-numbered-fine none e = never (cc)
-numbered-fine (stop i p r) e = never (cc)
+-- the verdict tells what is found, and a line by its number
+verdict-fine : (v : Found) → verdictOf v ≡ Fine → v ≡ fine
+verdict-fine fine e = refl
+verdict-fine noCommand e = never (cc)
+verdict-fine (stop i p r) e = never (cc)
 
-numbered-no : (v : Found) (n p : ℕ) (r : Refusal) (Goal : Type 0) → numbered 1 v ≡ No n p r
-    → (v ≡ none → n ≡ 1 → p ≡ 1 → r ≡ NoReset → Goal) → ((i : ℕ) → v ≡ stop i p r → n ≡ suc i → Goal) → Goal
-numbered-no fine n p r G e f g = never (cc)
-numbered-no none n p r G e f g = f refl (cc) (cc) (cc)
-numbered-no (stop i q s) n p r G e f g =
-    let z : 1 + i ≡ n = cc in
+verdict-no : (v : Found) (n p : ℕ) (r : Refusal) (Goal : Type 0) → verdictOf v ≡ No n p r
+    → (v ≡ noCommand → n ≡ 1 → p ≡ 1 → r ≡ NoReset → Goal) → ((i : ℕ) → v ≡ stop i p r → n ≡ lineNumber i → Goal) → Goal
+verdict-no fine n p r G e f g = never (cc)
+verdict-no noCommand n p r G e f g = f refl (cc) (cc) (cc)
+verdict-no (stop i q s) n p r G e f g =
     let y : s ≡ r = cc in
     let x : q ≡ p = cc in
-    g i (rw (x, y) refl) (omega arith)
+    g i (rw (x, y) refl) (cc)
 
 -- ---- a script that the check reads
 
-abbrev finds : ℕ → List (List ℕ) → Found
-finds capacity lines = found.found capacity lines startBoth
+abbrev finds : Model → List (List ℕ) → Found
+finds model lines = found model lines startBoth
 
-module _ (capacity : ℕ) (lines : List (List ℕ)) where
+module _ (model : Model) (lines : List (List ℕ)) where
   -- a long line answers 5 in every course
-  long-answers : (ls : List (List ℕ)) (g : Gaps ls) (w : World) → Open w → (i : ℕ) → tooLong (getD ls i []) ≡ true → answerOf ls g w i ≡ Refused LongLine 0
+  long-answers : (ls : List (List ℕ)) (g : Gaps ls) (w : World) → Open w → (i : ℕ) → tooLong (getD ls i []) ≡ true
+      → answerOf ls g w i ≡ Refused LongLine 0
   unfolding answerOf
   long-answers [] g w o i e = absurd (false≢true e)
   long-answers (l ∷ ls) g w o zero e = line-long (before (g .0) w) (events-open (g .0 .events) w o) (g .0 .room) l e
   long-answers (l ∷ ls) g w o (suc i) e =
-      long-answers ls (g .1) (after (g .0) l w) (line-open (before (g .0) w) (events-open (g .0 .events) w o) (g .0 .room) l) i e
+      long-answers ls (g .1) (after (g .0) l w)
+      (line-open (before (g .0) w) (events-open (g .0 .events) w o) (g .0 .room) l) i e
 
   short-zero : Short lines 0
   unfolding lineAt
@@ -172,205 +175,213 @@ module _ (capacity : ℕ) (lines : List (List ℕ)) where
   short-every f (suc i) = short-suc i (f i)
 
   -- every course
-  course-fine : finds capacity lines ≡ fine → (k : Course capacity lines) (n : ℕ) → answers k n ≡ Passed
+  course-fine : finds model lines ≡ fine → (k : Course model lines) (n : ℕ) → answers k n ≡ Passed
   unfolding answers
   course-fine e k zero = refl
   course-fine e k (suc i) =
-      script-fine capacity lines startBoth (k .start) (k .gaps) (course-open capacity lines k) (course-sim capacity lines k) (k .rooms) e i
+      script-passes model lines startBoth (k .start) (k .gaps) (course-open model lines k) (course-sim model lines k)
+      (k .rooms) i (rw e tt)
 
-  module _ (i p : ℕ) (r : Refusal) (e : finds capacity lines ≡ stop i p r) where
-    course-before : (k : Course capacity lines) (m : ℕ) → m < suc i → answers k m ≡ Passed
+  module _ (i p : ℕ) (r : Refusal) (e : finds model lines ≡ stop i p r) where
+    course-before : (k : Course model lines) (m : ℕ) → m < suc i → answers k m ≡ Passed
     unfolding answers
     course-before k zero h = refl
     course-before k (suc j) h =
-        script-before capacity lines startBoth (k .start) (k .gaps) (course-open capacity lines k) (course-sim capacity lines k) (k .rooms) i p r e j (omega arith)
+        script-passes model lines startBoth (k .start) (k .gaps) (course-open model lines k) (course-sim model lines k)
+        (k .rooms) j (rw e (omega arith))
 
-    course-earlier : (k : Course capacity lines) (q : ℕ) (s : Refusal) → answers k (suc i) ≡ Refused s q → p ≤ q
+    course-earlier : (k : Course model lines) (q : ℕ) (s : Refusal) → answers k (suc i) ≡ Refused s q → p ≤ q
     unfolding answers
     course-earlier k =
-        script-earlier capacity lines startBoth (k .start) (k .gaps) (course-open capacity lines k) (course-sim capacity lines k) (k .rooms) i p r e
+        script-earlier model lines startBoth (k .start) (k .gaps) (course-open model lines k) (course-sim model lines k)
+        (k .rooms) i p r e
 
-    refused-first : capacityFits capacity ≡ true → r ≢ NoReset → r ≢ LongScriptLine → FirstRefused capacity lines (suc i) p r
+    refused-first : modelFits model ≡ true → r ≢ NoReset → r ≢ LongScriptLine → FirstRefused model lines (suc i) p r
     unfolding answers course-of
     refused-first fits x y =
-        let w = reached capacity lines startBoth i p r e x y in
-        let k = course-of capacity fits (w .0) lines in
+        let w = reached model lines startBoth i p r e x y in
+        let k = course-of model fits (w .0) lines in
         record {
           witness = k;
-          fresh = course-fresh capacity fits (w .0) lines;
-          refuses = (w .1) (k .start) (course-open capacity lines k) (k .rooms) (fresh-at capacity fits (w .0));
+          fresh = course-fresh model fits (w .0) lines;
+          refuses = (w .1) (k .start) (course-open model lines k) (k .rooms) (fresh-at model fits (w .0));
           before = course-before;
           earlier = course-earlier;
         }
 
-    -- no line before is over-long
+    -- no line up to there is over-long
     short-to : r ≢ LongScriptLine → (m : ℕ) → m ≤ suc i → Short lines m
     short-to n zero h = short-zero
     short-to n (suc j) h =
-        order-split j i (Short lines (suc j)) (λ l. short-suc j (short-before capacity lines startBoth i p r e j l))
-        (λ l. rw l (short-suc i (short-here capacity lines startBoth i p r e n))) (λ l. absurd (omega arith))
+        order-split j i (Short lines (suc j)) (λ l. short-suc j (short-passes model lines startBoth j (rw e l)))
+        (λ l.
+        stop-split model lines startBoth i p r (Short lines (suc j)) e (λ t z q. absurd (n z))
+        (λ t z. rw l (short-suc i t)))
+        (λ l. absurd (omega arith))
 
   -- ---- each verdict
 
-  all-pass : capacityFits capacity ≡ true → finds capacity lines ≡ fine → AllPass capacity lines
+  -- how the script begins
+  starts : Begins 1 (finds model lines) (leadOf lines)
+  starts = begins-found model 1 lines startBoth refl
+
+  all-pass : modelFits model ≡ true → finds model lines ≡ fine → AllPass model lines
   all-pass fits e =
       record {
-        startable = fits-start capacity fits;
-        begun = led-fine capacity 1 lines startBoth refl e;
-        short = short-every (short-fine capacity lines startBoth e);
+        startable = fits-start model fits;
+        begun = by starts;
+        short = short-every (λ i. short-passes model lines startBoth i (rw e tt));
         passed = course-fine e;
       }
+    where
+      by : Begins 1 (finds model lines) (leadOf lines) → begins (leadOf lines) ≡ true
+      by (withReset n q c u w x) = unfold begins in rw u w
+      by (withOther i p n c f z u w) = never (cc)
+      by (withNothing f u) = never (cc)
+      by (withLong i f u) = never (cc)
+
+  -- 7
+  not-begun : (i p : ℕ) → finds model lines ≡ stop i p NoReset → NotBegun lines (suc i) p
+  not-begun i p e = by starts where
+    by : Begins 1 (finds model lines) (leadOf lines) → NotBegun lines (suc i) p
+    by (withReset n q c u w x) = let k : NoReset ≢ NoReset = rw e at x in absurd (k refl)
+    by (withOther j q n c f z u w) =
+        let a : stop j q NoReset ≡ stop i p NoReset = sym f ∙ e in
+        let b : j ≡ i = cc in
+        let d : q ≡ p = cc in
+        let m : n ≡ suc i = omega arith in
+        other (suc i) p c (u ∙ rw (m, d) refl) w (short-to i p NoReset e seven-eight)
+    by (withNothing f u) = never (cc)
+    by (withLong j f u) = absurd (seven-eight (cc))
+
+  no-command : finds model lines ≡ noCommand → NotBegun lines 1 1
+  no-command e = nothing (by starts) (short-every (λ i. short-passes model lines startBoth i (rw e tt))) where
+    by : Begins 1 (finds model lines) (leadOf lines) → leadOf lines ≡ none
+    by (withReset n q c u w x) = absurd (rw e at x)
+    by (withOther i p n c f z u w) = never (cc)
+    by (withNothing f u) = u
+    by (withLong i f u) = never (cc)
+
+  -- 8
+  long-at : (i p : ℕ) → finds model lines ≡ stop i p LongScriptLine → LongAt model lines (suc i) p
+  unfolding lineAt
+  long-at i p e =
+      stop-split model lines startBoth i p LongScriptLine (LongAt model lines (suc i) p) e
+      (λ t z q.
+      record {
+        nowhere = q;
+        long = t;
+        begun = λ m y c f h. by m y c f h starts;
+        before = course-before i p
+            LongScriptLine e;
+      })
+      (λ t h. absurd (omega arith))
+    where
+      by : (m q : ℕ) (c : Parsed) → leadOf lines ≡ first m q c → m < suc i
+          → Begins 1 (finds model lines) (leadOf lines) → isReset c ≡ true
+      by m q c f h (withReset n y d u w x) =
+          let z : first n y d ≡ first m q c = sym u ∙ f in
+          let b : d ≡ c = cc in
+          rw (sym b) w
+      by m q c f h (withOther j p n d k z u w) = absurd (seven-eight (cc))
+      by m q c f h (withNothing k u) = never (cc)
+      by m q c f h (withLong j k u) =
+          let b : j ≡ i = cc in
+          absurd (omega (arith, u m q c f))
+
+  -- ---- and back
 
   long-suc : (i : ℕ) → tooLong (getD lines i []) ≡ true → Short lines (suc i) → ⊥
   unfolding lineAt
   long-suc i e f = false≢true (sym f ∙ e)
 
-  begins-none : begins demand.none ≡ true → ⊥
+  begins-is : (n p : ℕ) (c : Parsed) → leadOf lines ≡ first n p c → begins (leadOf lines) ≡ isReset c
   unfolding begins
-  begins-none e = false≢true e
+  begins-is n p c u = rw u refl
 
-  begins-is : (n p : ℕ) (c : Parsed) → begins (first n p c) ≡ isReset c
-  unfolding begins
-  begins-is n p c = refl
-
-  refused-apart : (k : Course capacity lines) (n p : ℕ) (r : Refusal) → answers k n ≡ Refused r p → answers k n ≡ Passed → ⊥
+  refused-apart : (k : Course model lines) (n p : ℕ) (r : Refusal) → answers k n ≡ Refused r p → answers k n ≡ Passed
+      → ⊥
   refused-apart k n p r e f = not-passed r p (sym e ∙ f)
 
-  -- 7
-  not-begun : (i p : ℕ) → finds capacity lines ≡ stop i p NoReset → NotBegun lines (suc i) p
-  not-begun i p e =
-      let c = led-seven capacity 1 lines startBoth i p refl e in
-      let z : 1 + i ≡ suc i = omega arith in
-      other (suc i) p (c .0) (c .1 ∙ ap (λ (n : ℕ). first n p (c .0)) z) (c .2) (short-to i p NoReset e seven-eight)
-
-  no-command : finds capacity lines ≡ none → NotBegun lines 1 1
-  no-command e = nothing (led-none capacity 1 lines startBoth refl e) (short-every (short-none capacity lines startBoth e))
-
-  -- 8
-  long-at : (i p : ℕ) → finds capacity lines ≡ stop i p LongScriptLine → LongAt capacity lines (suc i) p
-  unfolding lineAt
-  long-at i p e =
-      let k = long-here capacity lines startBoth i p e in
-      record {
-        nowhere = k .0;
-        long = k .1;
-        begun = λ m q c f h. led-before capacity 1 lines startBoth i p LongScriptLine refl e m q c f (omega arith);
-        before = course-before i p LongScriptLine e;
-      }
-
-  -- ---- and back
-
-  module _ (fits : capacityFits capacity ≡ true) where
-    fine-back : AllPass capacity lines → finds capacity lines ≡ fine
-    fine-back a =
-        found-split (finds capacity lines) (finds capacity lines ≡ fine) (λ e. e)
-        (λ e. absurd (begins-none (rw (led-none capacity 1 lines startBoth refl e) at (a .begun))))
-        (λ i p r e.
-        refusal-split r (finds capacity lines ≡ fine)
-        (λ z.
-        let f : finds capacity lines ≡ stop i p NoReset = rw z at e in
-        let c = led-seven capacity 1 lines startBoth i p refl f in
-        let b : begins (first (1 + i) p (c .0)) ≡ true = rw (c .1) at (a .begun) in
-        absurd (false≢true (sym (c .2) ∙ (sym (begins-is (1 + i) p (c .0)) ∙ b))))
-        (λ z.
-        let f : finds capacity lines ≡ stop i p LongScriptLine = rw z at e in
-        absurd (long-suc i (long-here capacity lines startBoth i p f .1) (a .short (suc i))))
-        (λ x y.
-        let k = refused-first i p r e fits x y in
-        absurd (refused-apart (k .witness) (suc i) p r (k .refuses) (a .passed (k .witness) (suc i)))))
-
-    -- a long line of the low course
-    long-refused : (i : ℕ) → tooLong (getD lines i []) ≡ true → ((k : Course capacity lines) → answers k (suc i) ≡ Passed) → ⊥
+  module _ (fits : modelFits model ≡ true) where
+    -- where the check stops after *RST, some course is refused
+    stop-refused : (i p : ℕ) (r : Refusal) → finds model lines ≡ stop i p r → r ≢ NoReset
+        → ((k : Course model lines) → answers k (suc i) ≡ Passed) → ⊥
     unfolding answers
-    long-refused i e f =
-        let k = course-of capacity fits low lines in
-        refused-apart k (suc i) 0 LongLine (long-answers lines (k .gaps) (k .start) (course-open capacity lines k) i e) (f k)
+    stop-refused i p r e n f =
+        stop-split model lines startBoth i p r ⊥ e
+        (λ t z q.
+        let k = course-of model fits low lines in
+        refused-apart k (suc i) 0 LongLine (long-answers lines (k .gaps) (k .start) (course-open model lines k) i t)
+        (f k))
+        (λ t h.
+        let k = refused-first i p r e fits n (apart r LongScriptLine (λ z. omega arith)) in
+        refused-apart (k .witness) (suc i) p r (k .refuses) (f (k .witness)))
 
-    long-back : (j p : ℕ) → LongAt capacity lines (suc j) p → finds capacity lines ≡ stop j 0 LongScriptLine
+    fine-back : AllPass model lines → finds model lines ≡ fine
+    fine-back a = by starts where
+      by : Begins 1 (finds model lines) (leadOf lines) → finds model lines ≡ fine
+      by (withReset n q c u w x) =
+          found-split (finds model lines) (finds model lines ≡ fine) (λ e. e) (λ e. absurd (rw e at x))
+          (λ i p r e. absurd (stop-refused i p r e (rw e at x) (λ k. a .passed k (suc i))))
+      by (withOther i p n c e z u w) = absurd (false≢true (sym w ∙ (sym (begins-is n p c u) ∙ a .begun)))
+      by (withNothing e u) = absurd (false≢true (unfold begins in rw u at (a .begun)))
+      by (withLong i e u) =
+          absurd (stop-refused i 0 LongScriptLine e (λ z. seven-eight (sym z)) (λ k. a .passed k (suc i)))
+
+    long-back : (j p : ℕ) → LongAt model lines (suc j) p → finds model lines ≡ stop j 0 LongScriptLine
     unfolding lineAt
     long-back j p a =
-        found-split (finds capacity lines) (finds capacity lines ≡ stop j 0 LongScriptLine)
-        (λ e. absurd (false≢true (sym (short-fine capacity lines startBoth e j) ∙ a .long)))
-        (λ e. absurd (false≢true (sym (short-none capacity lines startBoth e j) ∙ a .long)))
+        found-split (finds model lines) (finds model lines ≡ stop j 0 LongScriptLine)
+        (λ e. absurd (false≢true (sym (short-passes model lines startBoth j (rw e tt)) ∙ a .long)))
+        (λ e. absurd (false≢true (sym (short-passes model lines startBoth j (rw e tt)) ∙ a .long)))
         (λ i q r e.
-        order-split i j (finds capacity lines ≡ stop j 0 LongScriptLine)
+        order-split i j (finds model lines ≡ stop j 0 LongScriptLine)
+        (λ h. absurd (stop-refused i q r e (begun i q r e h starts) (λ k. a .before k (suc i) (omega arith))))
         (λ h.
-        absurd
-        (refusal-split r ⊥
-        (λ z.
-        let f : finds capacity lines ≡ stop i q NoReset = rw z at e in
-        let c = led-seven capacity 1 lines startBoth i q refl f in
-        false≢true (sym (c .2) ∙ a .begun (1 + i) q (c .0) (c .1) (omega arith)))
-        (λ z.
-        let f : finds capacity lines ≡ stop i q LongScriptLine = rw z at e in
-        long-refused i (long-here capacity lines startBoth i q f .1) (λ k. a .before k (suc i) (omega arith)))
-        (λ x y.
-        let k = refused-first i q r e fits x y in
-        refused-apart (k .witness) (suc i) q r (k .refuses) (a .before (k .witness) (suc i) (omega arith)))))
-        (λ h.
-        let here : tooLong (getD lines i []) ≡ true = rw h (a .long) in
-        let x : (r ≢ LongScriptLine) → ⊥ = λ n. false≢true (sym (short-here capacity lines startBoth i q r e n) ∙ here) in
-        refusal-split r (finds capacity lines ≡ stop j 0 LongScriptLine)
-        (λ z. absurd (x (λ w. seven-eight (sym z ∙ w))))
-        (λ z.
-        let f : finds capacity lines ≡ stop i q LongScriptLine = rw z at e in
-        let n = long-here capacity lines startBoth i q f .0 in
-        f ∙ rw (h, n) refl)
-        (λ u v. absurd (x v)))
-        (λ h. absurd (false≢true (sym (short-before capacity lines startBoth i q r e j h) ∙ a .long))))
+        stop-split model lines startBoth i q r (finds model lines ≡ stop j 0 LongScriptLine) e
+        (λ t z y. e ∙ rw (h, z, y) refl)
+        (λ t y. absurd (false≢true (sym t ∙ rw h (a .long)))))
+        (λ h. absurd (false≢true (sym (short-passes model lines startBoth j (rw e h)) ∙ a .long))))
+      where
+        -- before the over-long line the check does not stop by 7
+        begun : (i q : ℕ) (r : Refusal) → finds model lines ≡ stop i q r → i < j
+            → Begins 1 (finds model lines) (leadOf lines) → r ≢ NoReset
+        begun i q r e h (withReset n y c u w x) s = let k : r ≢ NoReset = rw e at x in k s
+        begun i q r e h (withOther k y n c f z u w) s =
+            let b : k ≡ i = cc in
+            false≢true (sym w ∙ a .begun n y c u (omega arith))
+        begun i q r e h (withNothing f u) s = never (cc)
+        begun i q r e h (withLong k f u) s = seven-eight (cc)
 
     -- the other first command, or none
-    other-back : (n p : ℕ) (c : Parsed) → leadOf lines ≡ first n p c → isReset c ≡ false → ((m : ℕ) → m ≤ n → Short lines m)
-        → numbered 1 (finds capacity lines) ≡ No n p NoReset
-    other-back n p c l f s =
-        let never-begins : begins (leadOf lines) ≡ true → ⊥ = λ b.
-        let d : begins (first n p c) ≡ true = rw l at b in
-        false≢true (sym f ∙ (sym (begins-is n p c) ∙ d))
-        in
-        found-split (finds capacity lines) (numbered 1 (finds capacity lines) ≡ No n p NoReset)
-        (λ e. absurd (never-begins (led-fine capacity 1 lines startBoth refl e)))
-        (λ e. let z : first n p c ≡ demand.none = sym l ∙ led-none capacity 1 lines startBoth refl e in never (cc))
-        (λ i q r e.
-        refusal-split r (numbered 1 (finds capacity lines) ≡ No n p NoReset)
-        (λ z.
-        let g : finds capacity lines ≡ stop i q NoReset = rw z at e in
-        let d = led-seven capacity 1 lines startBoth i q refl g in
-        let w : first (1 + i) q (d .0) ≡ first n p c = sym (d .1) ∙ l in
-        let u : 1 + i ≡ n = cc in
-        let v : q ≡ p = cc in
-        rw (g, u, v) refl)
-        (λ z.
-        let g : finds capacity lines ≡ stop i q LongScriptLine = rw z at e in
-        let long = long-here capacity lines startBoth i q g .1 in
-        absurd
-        (bool-split (leb (suc i) n) ⊥
-        (λ h. long-suc i long (s (suc i) (leb-true (suc i) n h)))
-        (λ h.
-        let m = leb-false (suc i) n h in
-        false≢true (sym f ∙ led-before capacity 1 lines startBoth i q r refl e n p c l (omega arith)))))
-        (λ x y. absurd (never-begins (led-other capacity 1 lines startBoth i q r refl e x y))))
-
-    nothing-back : leadOf lines ≡ demand.none → ((m : ℕ) → Short lines m) → numbered 1 (finds capacity lines) ≡ No 1 1 NoReset
-    nothing-back l s =
-        let never-begins : begins (leadOf lines) ≡ true → ⊥ = λ b. begins-none (rw l at b) in
-        found-split (finds capacity lines) (numbered 1 (finds capacity lines) ≡ No 1 1 NoReset)
-        (λ e. absurd (never-begins (led-fine capacity 1 lines startBoth refl e)))
-        (λ e. rw e refl)
-        (λ i q r e.
-        refusal-split r (numbered 1 (finds capacity lines) ≡ No 1 1 NoReset)
-        (λ z.
-        let g : finds capacity lines ≡ stop i q NoReset = rw z at e in
-        let d = led-seven capacity 1 lines startBoth i q refl g in
-        let w : first (1 + i) q (d .0) ≡ demand.none = sym (d .1) ∙ l in
-        never (cc))
-        (λ z.
-        let g : finds capacity lines ≡ stop i q LongScriptLine = rw z at e in
-        absurd (long-suc i (long-here capacity lines startBoth i q g .1) (s (suc i))))
-        (λ x y. absurd (never-begins (led-other capacity 1 lines startBoth i q r refl e x y))))
-
-    begun-back : (n p : ℕ) → NotBegun lines n p → numbered 1 (finds capacity lines) ≡ No n p NoReset
-    begun-back n p (other m q c l f s) = other-back n p c l f s
-    begun-back n p (nothing l s) = nothing-back l s
+    begun-back : (n p : ℕ) → NotBegun lines n p → verdictOf (finds model lines) ≡ No n p NoReset
+    begun-back n p (other m q c l f s) = by starts where
+      by : Begins 1 (finds model lines) (leadOf lines) → verdictOf (finds model lines) ≡ No n p NoReset
+      by (withReset m y d u w x) =
+          let z : first m y d ≡ first n p c = sym u ∙ l in
+          let b : d ≡ c = cc in
+          absurd (false≢true (sym f ∙ rw (sym b) w))
+      by (withOther i y m d e z u w) =
+          let t : first m y d ≡ first n p c = sym u ∙ l in
+          let a : m ≡ n = cc in
+          let b : y ≡ p = cc in
+          let k : lineNumber i ≡ n = omega arith in
+          rw (e, k, b) refl
+      by (withNothing e u) = never (cc)
+      by (withLong i e u) =
+          stop-split model lines startBoth i 0 LongScriptLine (verdictOf (finds model lines) ≡ No n p NoReset) e
+          (λ t z q. absurd (long-suc i t (s (suc i) (omega (arith, u n p c l)))))
+          (λ t h. absurd (omega arith))
+    begun-back n p (nothing l s) = by starts where
+      by : Begins 1 (finds model lines) (leadOf lines) → verdictOf (finds model lines) ≡ No 1 1 NoReset
+      by (withReset m y d u w x) = never (cc)
+      by (withOther i y m d e z u w) = never (cc)
+      by (withNothing e u) = rw e refl
+      by (withLong i e u) =
+          stop-split model lines startBoth i 0 LongScriptLine (verdictOf (finds model lines) ≡ No 1 1 NoReset) e
+          (λ t z q. absurd (long-suc i t (s (suc i))))
+          (λ t h. absurd (omega arith))
 
 -- ---- the claim
 
@@ -378,94 +389,96 @@ seven-nine : NoReset ≢ BadTraces
 seven-nine = apart NoReset BadTraces (λ e. omega arith)
 
 -- 9 is not found
-found-nine : (capacity : ℕ) (lines : List (List ℕ)) (n p : ℕ) → numbered 1 (finds capacity lines) ≡ No n p BadTraces → ⊥
-found-nine capacity lines n p e =
-    numbered-no (finds capacity lines) n p BadTraces ⊥ e
+found-nine : (model : Model) (lines : List (List ℕ)) (n p : ℕ) → verdictOf (finds model lines) ≡ No n p BadTraces → ⊥
+found-nine model lines n p e =
+    verdict-no (finds model lines) n p BadTraces ⊥ e
     (λ a b c d. seven-nine (sym d))
-    (λ i a b. let z = stop-number capacity lines startBoth i p BadTraces a in omega arith)
+    (λ i a b.
+    stop-split model lines startBoth i p BadTraces ⊥ a (λ t z q. apart BadTraces LongScriptLine (λ u. omega arith) z)
+    (λ t h. omega arith))
 
-module _ (capacity : ℕ) (script : List ℕ) where
-  -- the check's verdict v, where the capacity fits and where it doesn't
-  by-capacity : (v : Verdict) (Goal : Type 0) → checkOf capacity script ≡ v
-      → (capacityFits capacity ≡ true → numbered 1 (finds capacity (linesOf script)) ≡ v → Goal)
-      → (capacityFits capacity ≡ false → No 0 0 BadTraces ≡ v → Goal) → Goal
-  by-capacity v G e f g =
-      bool-split (capacityFits capacity) G
-      (λ h. f h (sym (check-fits capacity script h) ∙ e))
-      (λ h. g h (sym (check-unfit capacity script h) ∙ e))
+module _ (model : Model) (script : List ℕ) where
+  -- the check's verdict v, where the model fits and where it doesn't
+  by-model : (v : Verdict) (Goal : Type 0) → checkOf model script ≡ v
+      → (modelFits model ≡ true → verdictOf (finds model (linesOf script)) ≡ v → Goal)
+      → (modelFits model ≡ false → No 0 0 BadTraces ≡ v → Goal) → Goal
+  by-model v G e f g =
+      bool-split (modelFits model) G
+      (λ h. f h (sym (check-fits model script h) ∙ e))
+      (λ h. g h (sym (check-unfit model script h) ∙ e))
 
-  yes-case : (checkOf capacity script ≡ Fine) ↔ AllPass capacity (linesOf script)
+  yes-case : (checkOf model script ≡ Fine) ↔ AllPass model (linesOf script)
   yes-case = (
     (λ e.
-        by-capacity Fine (AllPass capacity (linesOf script)) e
-        (λ h f. all-pass capacity (linesOf script) h (numbered-fine (finds capacity (linesOf script)) f))
+        by-model Fine (AllPass model (linesOf script)) e
+        (λ h f. all-pass model (linesOf script) h (verdict-fine (finds model (linesOf script)) f))
         (λ h f. never (cc))),
     (λ a.
-        let h = start-fits capacity (a .startable) in
-        check-fits capacity script h ∙ ap (numbered 1) (fine-back capacity (linesOf script) h a)),
+        let h = start-fits model (a .startable) in
+        check-fits model script h ∙ ap verdictOf (fine-back model (linesOf script) h a)),
   )
 
-  no-case : (n p : ℕ) (r : Refusal) → checkOf capacity script ≡ No n p r → r ≢ NoReset → r ≢ LongScriptLine → r ≢ BadTraces
-      → FirstRefused capacity (linesOf script) n p r
+  no-case : (n p : ℕ) (r : Refusal) → checkOf model script ≡ No n p r → r ≢ NoReset → r ≢ LongScriptLine → r ≢ BadTraces
+      → FirstRefused model (linesOf script) n p r
   no-case n p r e x y z =
-      by-capacity (No n p r) (FirstRefused capacity (linesOf script) n p r) e
+      by-model (No n p r) (FirstRefused model (linesOf script) n p r) e
       (λ h f.
-      numbered-no (finds capacity (linesOf script)) n p r (FirstRefused capacity (linesOf script) n p r) f
+      verdict-no (finds model (linesOf script)) n p r (FirstRefused model (linesOf script) n p r) f
       (λ a b c d. absurd (x d))
-      (λ i a b. rw b (refused-first capacity (linesOf script) i p r a h x y)))
+      (λ i a b. rw b (refused-first model (linesOf script) i p r a h x y)))
       (λ h f. let w : BadTraces ≡ r = cc in absurd (z (sym w)))
 
   seven-case : (n p : ℕ)
-      → (checkOf capacity script ≡ No n p NoReset) ↔ (Startable capacity × NotBegun (linesOf script) n p)
+      → (checkOf model script ≡ No n p NoReset) ↔ (Startable model × NotBegun (linesOf script) n p)
   seven-case n p = (
     (λ e.
-        by-capacity (No n p NoReset) (Startable capacity × NotBegun (linesOf script) n p) e
+        by-model (No n p NoReset) (Startable model × NotBegun (linesOf script) n p) e
         (λ h f. (
-          fits-start capacity h,
-          numbered-no (finds capacity (linesOf script)) n p NoReset (NotBegun (linesOf script) n p) f
-              (λ a b c d. rw (b, c) (no-command capacity (linesOf script) a))
-              (λ i a b. rw b (not-begun capacity (linesOf script) i p a)),
+          fits-start model h,
+          verdict-no (finds model (linesOf script)) n p NoReset (NotBegun (linesOf script) n p) f
+              (λ a b c d. rw (b, c) (no-command model (linesOf script) a))
+              (λ i a b. rw b (not-begun model (linesOf script) i p a)),
         ))
         (λ h f. let w : BadTraces ≡ NoReset = cc in absurd (seven-nine (sym w)))),
     (λ a.
-        let h = start-fits capacity (a .0) in
-        check-fits capacity script h ∙ begun-back capacity (linesOf script) h n p (a .1)),
+        let h = start-fits model (a .0) in
+        check-fits model script h ∙ begun-back model (linesOf script) h n p (a .1)),
   )
 
-  long-number : capacityFits capacity ≡ true → (n p : ℕ) → LongAt capacity (linesOf script) n p → checkOf capacity script ≡ No n p LongScriptLine
-  long-number fits zero p a = absurd (false≢true (sym (short-zero capacity (linesOf script)) ∙ a .long))
+  long-number : modelFits model ≡ true → (n p : ℕ) → LongAt model (linesOf script) n p
+      → checkOf model script ≡ No n p LongScriptLine
+  long-number fits zero p a = absurd (false≢true (sym (short-zero model (linesOf script)) ∙ a .long))
   long-number fits (suc j) p a =
-      let f = ap (numbered 1) (long-back capacity (linesOf script) fits j p a) in
-      let z : 1 + j ≡ suc j = omega arith in
-      check-fits capacity script fits ∙ (f ∙ rw (z, a .nowhere) refl)
+      check-fits model script fits ∙ (ap verdictOf (long-back model (linesOf script) fits j p a) ∙ rw (a .nowhere) refl)
 
   eight-case : (n p : ℕ)
-      → (checkOf capacity script ≡ No n p LongScriptLine) ↔ (Startable capacity × LongAt capacity (linesOf script) n p)
+      → (checkOf model script ≡ No n p LongScriptLine) ↔ (Startable model × LongAt model (linesOf script) n p)
   eight-case n p = (
     (λ e.
-        by-capacity (No n p LongScriptLine) (Startable capacity × LongAt capacity (linesOf script) n p) e
+        by-model (No n p LongScriptLine) (Startable model × LongAt model (linesOf script) n p) e
         (λ h f. (
-          fits-start capacity h,
-          numbered-no (finds capacity (linesOf script)) n p LongScriptLine (LongAt capacity (linesOf script) n p) f
+          fits-start model h,
+          verdict-no (finds model (linesOf script)) n p LongScriptLine (LongAt model (linesOf script) n p) f
               (λ a b c d. absurd (seven-eight (sym d)))
-              (λ i a b. rw b (long-at capacity (linesOf script) i p a)),
+              (λ i a b. rw b (long-at model (linesOf script) i p a)),
         ))
-        (λ h f. let w : BadTraces ≡ LongScriptLine = cc in absurd (apart BadTraces LongScriptLine (λ u. omega arith) w))),
-    (λ a. long-number (start-fits capacity (a .0)) n p (a .1)),
+        (λ h f. let w : BadTraces ≡ LongScriptLine = cc in absurd
+        (apart BadTraces LongScriptLine (λ u. omega arith) w))),
+    (λ a. long-number (start-fits model (a .0)) n p (a .1)),
   )
 
   nine-case : (n p : ℕ)
-      → (checkOf capacity script ≡ No n p BadTraces)
-      ↔ (StartAnswers capacity (outcome.Refused BadTraces) × (n ≡ 0) × (p ≡ 0))
+      → (checkOf model script ≡ No n p BadTraces)
+      ↔ (StartAnswers model (outcome.Refused BadTraces) × (n ≡ 0) × (p ≡ 0))
   nine-case n p = (
     (λ e.
-        by-capacity (No n p BadTraces) (StartAnswers capacity (outcome.Refused BadTraces) × (n ≡ 0) × (p ≡ 0)) e
-        (λ h f. absurd (found-nine capacity (linesOf script) n p f))
-        (λ h f. (unfit-start capacity h, cc, cc))),
-    (λ a. check-unfit capacity script (start-unfit capacity (a .0)) ∙ rw (a .1, a .2) refl),
+        by-model (No n p BadTraces) (StartAnswers model (outcome.Refused BadTraces) × (n ≡ 0) × (p ≡ 0)) e
+        (λ h f. absurd (found-nine model (linesOf script) n p f))
+        (λ h f. (unfit-start model h, cc, cc))),
+    (λ a. check-unfit model script (start-unfit model (a .0)) ∙ rw (a .1, a .2) refl),
   )
 
-  pub demand3 : Demand3 capacity script
+  pub demand3 : Demand3 model script
   demand3 =
       record {
         yes = yes-case;
@@ -474,6 +487,6 @@ module _ (capacity : ℕ) (script : List ℕ) where
         eight = eight-case;
         nine = nine-case;
         course = λ s.
-            let h = start-fits capacity s in
-            (course-of capacity h low (linesOf script), course-fresh capacity h low (linesOf script));
+            let h = start-fits model s in
+            (course-of model h low (linesOf script), course-fresh model h low (linesOf script));
       }

@@ -1,4 +1,5 @@
--- The check's two courses are courses: where the check stops by another number than 7 or 8, the low or the high one is refused there.
+-- The check's two courses are courses: where the check stops by another number than 7 or 8, the low or the high one is
+-- refused there.
 use Prim.Native.Nat.{ℕ, _+_, _-_, _*_, _/_, _≤_}
 use native.Mathlib.Omega.{arith}
 use native.Mathlib.Nat.{mul-div-le, le-div-iff-mul-le, div-le-self}
@@ -34,14 +35,21 @@ use Rattle.refusal.specs.declared.Answer.the-variants.{Passed, Refused}
 use Rattle.event.specs.Event.{takesFrequency, withExternal, measuredBy, sampledIn, eventOf}
 use Rattle.event.specs.declared.Event.{Event}
 use Rattle.event.specs.declared.Event.the-variants.{Trigger, Measured}
-use Rattle.two_courses.specs.Courses.{resets, measuredHigh, triggeredHigh, kindRefusal, textRefusal, kindAfter, textAfter}
+use Rattle.two_courses.specs.Model.{OfModel}
+use Rattle.two_courses.specs.declared.Model.{Model}
+use Rattle.two_courses.specs.Courses.{resets, measuredHigh, triggeredHigh, kindRefusal, textRefusal, kindAfter}
+use Rattle.two_courses.specs.Courses.{textAfter}
 use Rattle.two_courses.specs.declared.Both.{Both}
 use Rattle.script.specs.Check.{textsAnswer, textsAfter}
 use Rattle.demands.specs.Representable.{Every, EventFits}
-use Rattle.courses.proofs.Alike.{Alike, alike-then, alike-value, alike-allows, alike-after, alike-moving, alike-sampling, after-settings, after-moving, after-unit, crossed-settings, crossed-moving}
+use Rattle.courses.proofs.Alike.{Alike, alike-then, alike-value, alike-allows, alike-after, alike-moving}
+use Rattle.courses.proofs.Alike.{alike-sampling, after-settings, after-moving, after-unit, crossed-settings}
+use Rattle.courses.proofs.Alike.{crossed-moving}
 use Rattle.courses.proofs.Gap.{harm-kept}
 use Rattle.courses.proofs.Found.{not-passed, not-done, answer-passed, answer-split}
-use Rattle.courses.proofs.Commands.{allowed-done, effectIn, run-rest, step-passed, step-refused, run-refused, count-step}
+use Rattle.courses.proofs.Commands.{kind-done, allowed-done, effectIn, run-rest, step-passed, step-refused}
+use Rattle.courses.proofs.Commands.{run-refused}
+use Rattle.courses.proofs.Commands.{count-step}
 
 -- which of the two
 pub data Side : Type 0 where
@@ -52,8 +60,8 @@ side low b = b .low
 side high b = b .high
 
 -- a state where that course is
-pub record At (d : Side) (capacity : ℕ) (b : Both) (s : State) : Type 0 where
-  pub same : s .unit .capacity ≡ capacity
+pub record At (d : Side) (model : Model) (b : Both) (s : State) : Type 0 where
+  pub same : OfModel model (s .unit)
   pub alike : Alike (s .settings) (b .settings)
   pub moving : s .moving ≡ side d b
 
@@ -65,136 +73,153 @@ reset-allows (Set a) x m e = absurd (false≢true e)
 reset-allows (Query q) x m e = absurd (false≢true e)
 reset-allows (Act a) x m e = refl
 
-both-sides : (d : Side) (b : Both) (kind : Kind) → allowsOf (b .settings) (b .low) kind ≡ true → allowsOf (b .settings) (b .high) kind ≡ true
+both-sides : (d : Side) (b : Both) (kind : Kind) → allowsOf (b .settings) (b .low) kind ≡ true
+    → allowsOf (b .settings) (b .high) kind ≡ true
     → allowsOf (b .settings) (side d b) kind ≡ true
 both-sides low b kind l h = l
 both-sides high b kind l h = h
 
 -- what the check passes, that course passes
-side-allows : (d : Side) (b : Both) (kind : Kind) → kindRefusal kind b ≡ outcome.Done → allowsOf (b .settings) (side d b) kind ≡ true
-unfolding kindRefusal
-side-allows d b kind =
-    by (b .begun) (allowsOf (b .settings) (b .low) kind) (allowsOf (b .settings) (b .high) kind) (resets kind) refl refl refl
-  where
-    by : (a l h r : Bool) → allowsOf (b .settings) (b .low) kind ≡ l → allowsOf (b .settings) (b .high) kind ≡ h → resets kind ≡ r
-        → cond a (cond (l && h) outcome.Done (outcome.Refused NotAllowed)) (cond r outcome.Done (outcome.Refused NoReset)) ≡ outcome.Done
-        → allowsOf (b .settings) (side d b) kind ≡ true
-    by true true true r p q u e = both-sides d b kind p q
-    by true true false r p q u e = not-done NotAllowed e
-    by true false h r p q u e = not-done NotAllowed e
-    by false l h true p q u e = reset-allows kind (b .settings) (side d b) u
-    by false l h false p q u e = not-done NoReset e
+side-allows : (d : Side) (b : Both) (kind : Kind) → kindRefusal kind b ≡ outcome.Done
+    → allowsOf (b .settings) (side d b) kind ≡ true
+side-allows d b kind e =
+    kind-done b kind (allowsOf (b .settings) (side d b) kind ≡ true) e (λ p l h. both-sides d b kind l h)
+    (λ u. reset-allows kind (b .settings) (side d b) u)
 
-side-after : (d : Side) (capacity : ℕ) (kind : Kind) (b : Both) → side d (kindAfter capacity kind b) ≡ movingAfter kind (b .settings) (side d b) capacity
+side-after : (d : Side) (model : Model) (kind : Kind) (b : Both)
+    → side d (kindAfter model kind b) ≡ movingAfter kind (b .settings) (side d b) (model .capacity)
 unfolding kindAfter
-side-after low capacity kind b = refl
-side-after high capacity kind b = refl
+side-after low model kind b = refl
+side-after high model kind b = refl
 
-module _ (d : Side) (capacity : ℕ) (b : Both) (s : State) (i : At d capacity b s) where
+module _ (d : Side) (model : Model) (b : Both) (s : State) (i : At d model b s) where
   state-allows : (kind : Kind) → allowsOf (s .settings) (s .moving) kind ≡ allowsOf (b .settings) (side d b) kind
-  state-allows kind = alike-allows (s .settings) (b .settings) (i .alike) (s .moving) kind ∙ ap (λ (m : Moving). allowsOf (b .settings) m kind) (i .moving)
+  state-allows kind =
+      alike-allows (s .settings) (b .settings) (i .alike) (s .moving) kind ∙ ap
+      (λ (m : Moving). allowsOf (b .settings) m kind) (i .moving)
 
-  at-after : (kind : Kind) → At d capacity (kindAfter capacity kind b) (stateAfter kind s)
+  at-after : (kind : Kind) → At d model (kindAfter model kind b) (stateAfter kind s)
   at-after kind =
       record {
         same = rw (after-unit kind s) (i .same);
-        alike = unfold kindAfter in alike-then (after-settings kind s) (alike-after (s .settings) (b .settings) (i .alike) kind);
+        alike = unfold kindAfter in alike-then (after-settings kind s)
+            (alike-after (s .settings) (b .settings) (i .alike) kind);
         moving =
             after-moving kind s
             ∙ (alike-moving (s .settings) (b .settings) (i .alike) kind (s .moving) (s .unit .capacity)
-            ∙ (rw (i .same, i .moving) (sym (side-after d capacity kind b))));
+            ∙ (rw (i .same .capacity, i .moving) (sym (side-after d model kind b))));
       }
 
   at-parsed : (room : ℕ) (waiting : Bool) (p : Parsed) (one two : List ℕ) → textRefusal p b ≡ outcome.Done
       → drops (commandOf room waiting p s one two .outcome) ≡ false
-      → (commandOf room waiting p s one two .outcome ≡ outcome.Done) × At d capacity (textAfter capacity p b) (commandOf room waiting p s one two .state)
+      → (commandOf room waiting p s one two .outcome ≡ outcome.Done)
+      × At d model (textAfter model p b) (commandOf room waiting p s one two .state)
   unfolding textRefusal textAfter commandOf
   at-parsed room waiting parsed.Empty one two e f = (refl, i)
   at-parsed room waiting (parsed.Refused r) one two e f = not-done _ e
   at-parsed room waiting (parsed.Taken c) one two e f =
-      allowed-done (λ t. (t .outcome ≡ outcome.Done) × At d capacity (kindAfter capacity (c .kind) b) (t .state)) room waiting (c .kind) s one two
+      allowed-done (λ t. (t .outcome ≡ outcome.Done) × At d model (kindAfter model (c .kind) b) (t .state)) room waiting
+      (c .kind) s one two
       (state-allows (c .kind) ∙ side-allows d b (c .kind) e) f (unfold doneBy in (refl, at-after (c .kind)))
 
 -- what the check refuses, but for 7, one of the two refuses
-abbrev Refuses : ℕ → Both → Parsed → Refusal → Side → Type 0
-Refuses capacity b p r d =
-    (s : State) → At d capacity b s → (room : ℕ) (waiting : Bool) (one two : List ℕ) → commandOf room waiting p s one two .outcome ≡ outcome.Refused r
+abbrev Refuses : Model → Both → Parsed → Refusal → Side → Type 0
+Refuses model b p r d =
+    (s : State) → At d model b s → (room : ℕ) (waiting : Bool) (one two : List ℕ)
+    → commandOf room waiting p s one two .outcome ≡ outcome.Refused r
 
-not-allowed : (capacity : ℕ) (b : Both) (c : Kind) (d : Side) → allowsOf (b .settings) (side d b) c ≡ false
-    → Refuses capacity b (parsed.Taken (record { kind = c })) NotAllowed d
+not-allowed : (model : Model) (b : Both) (c : Kind) (d : Side) → allowsOf (b .settings) (side d b) c ≡ false
+    → Refuses model b (parsed.Taken (record { kind = c })) NotAllowed d
 unfolding commandOf performed
-not-allowed capacity b c d e s i room waiting one two = rw (state-allows d capacity b s i c ∙ e) refl
+not-allowed model b c d e s i room waiting one two = rw (state-allows d model b s i c ∙ e) refl
 
 pub refused-same : (r s : Refusal) → outcome.Refused r ≡ outcome.Refused s → r ≡ s
 refused-same r s e = cc
 
-parsed-refuses : (capacity : ℕ) (b : Both) (p : Parsed) (r : Refusal) → textRefusal p b ≡ outcome.Refused r → r ≢ NoReset
-    → (d : Side) × Refuses capacity b p r d
+parsed-refuses : (model : Model) (b : Both) (p : Parsed) (r : Refusal) → textRefusal p b ≡ outcome.Refused r
+    → r ≢ NoReset
+    → (d : Side) × Refuses model b p r d
 unfolding textRefusal
-parsed-refuses capacity b parsed.Empty r e n = not-done r (sym e)
-parsed-refuses capacity b (parsed.Refused q) r e n = (low, by (b .begun) (refused-same _ _ e)) where
-  by : (t : Bool) → cond t q NoReset ≡ r → Refuses capacity b (parsed.Refused q) r low
+parsed-refuses model b parsed.Empty r e n = not-done r (sym e)
+parsed-refuses model b (parsed.Refused q) r e n = (low, by (b .begun) (refused-same _ _ e)) where
+  by : (t : Bool) → cond t q NoReset ≡ r → Refuses model b (parsed.Refused q) r low
   by true z s i room waiting one two = unfold commandOf in ap (λ (x : Refusal). outcome.Refused x) z
   by false z s i room waiting one two = absurd (n (sym z))
-parsed-refuses capacity b (parsed.Taken c) r e n =
-    by (b .begun) (allowsOf (b .settings) (b .low) (c .kind)) (allowsOf (b .settings) (b .high) (c .kind)) (resets (c .kind)) refl refl
+parsed-refuses model b (parsed.Taken c) r e n =
+    by (b .begun) (allowsOf (b .settings) (b .low) (c .kind)) (allowsOf (b .settings) (b .high) (c .kind))
+    (resets (c .kind)) refl refl
     (unfold kindRefusal in e)
   where
-    by : (a l h t : Bool) → allowsOf (b .settings) (b .low) (c .kind) ≡ l → allowsOf (b .settings) (b .high) (c .kind) ≡ h
-        → cond a (cond (l && h) outcome.Done (outcome.Refused NotAllowed)) (cond t outcome.Done (outcome.Refused NoReset)) ≡ outcome.Refused r
-        → (d : Side) × Refuses capacity b (parsed.Taken c) r d
+    by : (a l h t : Bool) → allowsOf (b .settings) (b .low) (c .kind) ≡ l
+        → allowsOf (b .settings) (b .high) (c .kind) ≡ h
+        → cond a (cond (l && h) outcome.Done (outcome.Refused NotAllowed))
+        (cond t outcome.Done (outcome.Refused NoReset)) ≡ outcome.Refused r
+        → (d : Side) × Refuses model b (parsed.Taken c) r d
     by true false h t p q z =
-        (low, λ s i room waiting one two. not-allowed capacity b (c .kind) low p s i room waiting one two ∙ z)
+        (low, λ s i room waiting one two. not-allowed model b (c .kind) low p s i room waiting one two ∙ z)
     by true true false t p q z =
-        (high, λ s i room waiting one two. not-allowed capacity b (c .kind) high q s i room waiting one two ∙ z)
+        (high, λ s i room waiting one two. not-allowed model b (c .kind) high q s i room waiting one two ∙ z)
     by true true true t p q z = not-done r (sym z)
     by false l h true p q z = not-done r (sym z)
     by false l h false p q z = absurd (n (sym (refused-same _ _ z)))
 
 -- ---- a line's commands
 
-at-step : (d : Side) (capacity room : ℕ) (t : List ℕ) (l : Line) (b : Both) → At d capacity b (l .state) → textRefusal (parsedOf t) b ≡ outcome.Done
-    → stepOf room t l .dropped ≡ false → (effectIn room t l .outcome ≡ outcome.Done) × At d capacity (textAfter capacity (parsedOf t) b) (stepOf room t l .state)
+at-step : (d : Side) (model : Model) (room : ℕ) (t : List ℕ) (l : Line) (b : Both) → At d model b (l .state)
+    → textRefusal (parsedOf t) b ≡ outcome.Done
+    → stepOf room t l .dropped ≡ false
+    → (effectIn room t l .outcome ≡ outcome.Done) × At d model (textAfter model (parsedOf t) b) (stepOf room t l .state)
 unfolding stepOf afterOf
-at-step d capacity room t l b i e f = at-parsed d capacity b (l .state) i (room - length (l .out)) (waits (l .out)) (parsedOf t) (l .one) (l .two) e f
+at-step d model room t l b i e f =
+    at-parsed d model b (l .state) i (room - length (l .out)) (waits (l .out)) (parsedOf t) (l .one) (l .two) e f
 
-pub at-run : (d : Side) (capacity room : ℕ) (ts : List (List ℕ)) (l : Line) (b : Both) (p : ℕ) → At d capacity b (l .state)
-    → runAll room ts l .dropped ≡ false → textsAnswer capacity p ts b ≡ Passed → At d capacity (textsAfter capacity ts b) (runAll room ts l .state)
+pub at-run : (d : Side) (model : Model) (room : ℕ) (ts : List (List ℕ)) (l : Line) (b : Both) (p : ℕ)
+    → At d model b (l .state)
+    → runAll room ts l .dropped ≡ false → textsAnswer model p ts b ≡ Passed
+    → At d model (textsAfter model ts b) (runAll room ts l .state)
 unfolding textsAfter
-at-run d capacity room [] l b p i c e = unfold runAll in i
-at-run d capacity room (t ∷ ts) l b p i c e =
+at-run d model room [] l b p i c e = unfold runAll in i
+at-run d model room (t ∷ ts) l b p i c e =
     let rest = run-rest room t ts l c in
-    let q = answer-passed (textRefusal (parsedOf t) b) p (textsAnswer capacity (p + 1) ts (textAfter capacity (parsedOf t) b)) (unfold textsAnswer in e) in
-    let k = at-step d capacity room t l b i (q .0) (rest .0) in
-    rw (rest .1) (at-run d capacity room ts (stepOf room t l) (textAfter capacity (parsedOf t) b) (p + 1) (k .1) (rw (rest .1) at c) (q .1))
+    let q = answer-passed (textRefusal (parsedOf t) b) p (textsAnswer model (p + 1) ts (textAfter model (parsedOf t) b))
+    (unfold textsAnswer in e) in
+    let k = at-step d model room t l b i (q .0) (rest .0) in
+    rw (rest .1) (at-run d model room ts (stepOf room t l) (textAfter model (parsedOf t) b) (p + 1) (k .1)
+    (rw (rest .1) at c) (q .1))
 
-abbrev RunRefuses : ℕ → Both → ℕ → List (List ℕ) → Refusal → ℕ → Side → Type 0
-RunRefuses capacity b n ts r p d =
-    (room : ℕ) (l : Line) → l .count ≡ n → l .answer ≡ Passed → At d capacity b (l .state) → runAll room ts l .dropped ≡ false
+abbrev RunRefuses : Model → Both → ℕ → List (List ℕ) → Refusal → ℕ → Side → Type 0
+RunRefuses model b n ts r p d =
+    (room : ℕ) (l : Line) → l .count ≡ n → l .answer ≡ Passed → At d model b (l .state)
+    → runAll room ts l .dropped ≡ false
     → runAll room ts l .answer ≡ Refused r p
 
-pub run-refuses : (capacity : ℕ) (b : Both) (n : ℕ) (ts : List (List ℕ)) (r : Refusal) (p : ℕ) → textsAnswer capacity (n + 1) ts b ≡ Refused r p
-    → r ≢ NoReset → (d : Side) × RunRefuses capacity b n ts r p d
-run-refuses capacity b n [] r p e z = not-passed r p (sym (unfold textsAnswer in e))
-run-refuses capacity b n (t ∷ ts) r p e z =
-    answer-split (textRefusal (parsedOf t) b) (n + 1) (textsAnswer capacity (n + 1 + 1) ts (textAfter capacity (parsedOf t) b)) p r
-    ((d : Side) × RunRefuses capacity b n (t ∷ ts) r p d) (unfold textsAnswer in e)
+pub run-refuses : (model : Model) (b : Both) (n : ℕ) (ts : List (List ℕ)) (r : Refusal) (p : ℕ)
+    → textsAnswer model (n + 1) ts b ≡ Refused r p
+    → r ≢ NoReset → (d : Side) × RunRefuses model b n ts r p d
+run-refuses model b n [] r p e z = not-passed r p (sym (unfold textsAnswer in e))
+run-refuses model b n (t ∷ ts) r p e z =
+    answer-split (textRefusal (parsedOf t) b) (n + 1)
+    (textsAnswer model (n + 1 + 1) ts (textAfter model (parsedOf t) b)) p r
+    ((d : Side) × RunRefuses model b n (t ∷ ts) r p d) (unfold textsAnswer in e)
     (λ f g.
-    let w = run-refuses capacity (textAfter capacity (parsedOf t) b) (n + 1) ts r p g z in (
+    let w = run-refuses model (textAfter model (parsedOf t) b) (n + 1) ts r p g z in (
       w .0,
       λ room l m a i c.
           let rest = run-rest room t ts l c in
-          let k = at-step (w .0) capacity room t l b i f (rest .0) in
+          let k = at-step (w .0) model room t l b i f (rest .0) in
           rw (rest .1)
-          ((w .1) room (stepOf room t l) (count-step room t l ∙ ap (λ (x : ℕ). x + 1) m) (step-passed room t l a (k .0)) (k .1) (rw (rest .1) at c)),
+          ((w .1) room (stepOf room t l) (count-step room t l ∙ ap (λ (x : ℕ). x + 1) m) (step-passed room t l a (k .0))
+          (k .1) (rw (rest .1) at c)),
     ))
     (λ f g.
-    let w = parsed-refuses capacity b (parsedOf t) r f z in (
+    let w = parsed-refuses model b (parsedOf t) r f z in (
       w .0,
       λ room l m a i c.
           let rest = run-rest room t ts l c in
-          let k = step-refused room t l r a ((w .1) (l .state) i (room - length (l .out)) (waits (l .out)) (l .one) (l .two)) in
-          rw (rest .1) (run-refused room ts (stepOf room t l) r p (k ∙ ap (λ (x : ℕ). Refused r x) (ap (λ (x : ℕ). x + 1) m ∙ g))),
+          let k = step-refused room t l r a
+          ((w .1) (l .state) i (room - length (l .out)) (waits (l .out)) (l .one) (l .two)) in
+          rw (rest .1) (run-refused room ts (stepOf room t l) r p
+          (k ∙ ap (λ (x : ℕ). Refused r x) (ap (λ (x : ℕ). x + 1) m ∙ g))),
     ))
 
 -- ---- its events
@@ -249,8 +274,9 @@ module _ (x : Settings) (s : State) (a : Alike (s .settings) x) (k : keepsAll (s
         crossed-moving (detectionNow s) (withExternal (highest x) s) ∙ ap (atFrequency (highest x)) e,
       )
 
-pub triggered-at : (capacity : ℕ) (x : Settings) (s : State) (m : Moving) (one two : List ℕ) → s .unit .capacity ≡ capacity → Alike (s .settings) x → s .moving ≡ m →
+pub triggered-at : (model : Model) (x : Settings) (s : State) (m : Moving) (one two : List ℕ) → OfModel model (s .unit)
+    → Alike (s .settings) x → s .moving ≡ m →
     let t = eventOf Trigger s one two .state in
-    (t .unit ≡ s .unit) × Alike (t .settings) x × (t .moving ≡ triggeredHigh capacity x m)
+    (t .unit ≡ s .unit) × Alike (t .settings) x × (t .moving ≡ triggeredHigh (model .capacity) x m)
 unfolding eventOf sampledIn sampledBy triggerOf triggeredHigh
-triggered-at capacity x s m one two c a e = (refl, a, rw (c, e, alike-sampling (s .settings) x a) refl)
+triggered-at model x s m one two c a e = (refl, a, rw (c .capacity, e, alike-sampling (s .settings) x a) refl)

@@ -16,6 +16,8 @@ use Rattle.refusal.specs.declared.Answer.the-variants.{Passed}
 use Rattle.module.specs.Start.{unitKnown, startOf}
 use Rattle.module.specs.Module.{allowedModule}
 use Rattle.module.specs.declared.Module.{Module}
+use Rattle.two_courses.specs.Model.{OfModel}
+use Rattle.two_courses.specs.declared.Model.{Model}
 use Rattle.lockin.specs.Calls.{Call, EventCall, lineCall, eventCall}
 use Rattle.demands.specs.Representable.{Every, Word, Count, ModuleFits, EventFits}
 
@@ -33,27 +35,28 @@ pub record WorldFits (w : World) : Type 0 where
 
 -- ---- the start
 
--- what the start answers over two traces of a length, with any serial number and port that a start takes
-abbrev pub StartAnswers : ℕ → Outcome → Type 0
-StartAnswers capacity o =
-    (serial port : ℕ) → unitKnown serial port ≡ true → startOf serial port capacity capacity .outcome ≡ o
+-- what the start of a module of the model answers, with any serial number and port that a start takes
+abbrev pub StartAnswers : Model → Outcome → Type 0
+StartAnswers model o =
+    (serial port : ℕ) → unitKnown serial port ≡ true
+    → startOf serial port (model .capacity) (model .capacity) .outcome ≡ o
 
--- a module of a capacity can be started
-abbrev pub Startable : ℕ → Type 0
-Startable capacity = StartAnswers capacity Done
+-- a module of the model can be started
+abbrev pub Startable : Model → Type 0
+Startable model = StartAnswers model Done
 
 -- a module as the start makes it, with serial number 0 and port GPIB, and two traces with all words 0
-unfoldable pub freshWorld : ℕ → World
-freshWorld capacity =
+unfoldable pub freshWorld : Model → World
+freshWorld model =
     record {
-      core = startOf 0 1 capacity capacity .after;
-      one = replicate capacity 0;
-      two = replicate capacity 0;
+      core = startOf 0 1 (model .capacity) (model .capacity) .after;
+      one = replicate (model .capacity) 0;
+      two = replicate (model .capacity) 0;
     }
 
 -- ---- the calls
 
--- a line handed over whole, in a reply room of so many bytes, and an event
+-- a line handed over whole, in a reply room of a length, and an event
 abbrev pub lineIn : ℕ → List ℕ → World → Call
 lineIn room line w = lineCall room line (w .core) (w .one) (w .two)
 
@@ -114,26 +117,26 @@ GapsFit (l ∷ ls) g = GapFits (g .0) × GapsFit ls (g .1)
 
 -- ---- the course
 
--- A module that 11 does not refuse, of the capacity told, and two traces of that length; for each line, events and a
--- reply room that is not too small. The module, the traces, the events and the rooms are ones that there can be.
-pub record Course (capacity : ℕ) (lines : List (List ℕ)) : Type 0 where
+-- A module that 11 does not refuse and that is of the model told, and two traces of its capacity; for each line, events
+-- and a reply room that is not too small. The module, the traces, the events and the rooms are ones that there can be.
+pub record Course (model : Model) (lines : List (List ℕ)) : Type 0 where
   pub start : World
   pub allowed : allowedModule (start .core) ≡ true
-  pub told : start .core .state .unit .capacity ≡ capacity
-  pub first : length (start .one) ≡ capacity
-  pub second : length (start .two) ≡ capacity
+  pub told : OfModel model (start .core .state .unit)
+  pub first : length (start .one) ≡ model .capacity
+  pub second : length (start .two) ≡ model .capacity
   pub fits : WorldFits start
   pub gaps : Gaps lines
   pub gaps-fit : GapsFit lines gaps
   pub rooms : Roomy lines gaps start
 
--- the answer of the line behind so many others
+-- the answer of the line at an index, counted from 0
 unfoldable pub answerOf : (ls : List (List ℕ)) → Gaps ls → World → ℕ → Answer
 answerOf [] g w i = Passed
 answerOf (l ∷ ls) g w zero = lineIn (g .0 .room) l (before (g .0) w) .told .answer
 answerOf (l ∷ ls) g w (suc i) = answerOf ls (g .1) (after (g .0) l w) i
 
 -- the answer of line n of a course, counted from 1
-unfoldable pub answers : {capacity : ℕ} {lines : List (List ℕ)} → Course capacity lines → ℕ → Answer
+unfoldable pub answers : {model : Model} {lines : List (List ℕ)} → Course model lines → ℕ → Answer
 answers k zero = Passed
-answers {capacity} {lines} k (suc i) = answerOf lines (k .gaps) (k .start) i
+answers {model} {lines} k (suc i) = answerOf lines (k .gaps) (k .start) i

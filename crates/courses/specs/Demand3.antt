@@ -19,6 +19,7 @@ use Rattle.command.specs.declared.Parsed.the-variants.{Empty, Taken, Refused}
 use Rattle.clean.specs.Texts.{textsOf}
 use Rattle.refusal.specs.declared.Answer.the-variants as answer
 use Rattle.two_courses.specs.Courses.{resets}
+use Rattle.two_courses.specs.declared.Model.{Model}
 use Rattle.script.specs.Check.{tooLong, linesOf, checkOf}
 use Rattle.verdict.specs.declared.Verdict.the-variants.{Fine, No}
 use Rattle.courses.specs.Course.{StartAnswers, Startable, freshWorld, Course, answers}
@@ -73,25 +74,25 @@ begins (first line place c) = isReset c
 -- ---- the verdicts
 
 -- in every course all lines before line n answer 0
-abbrev pub PassedBefore : ℕ → List (List ℕ) → ℕ → Type 0
-PassedBefore capacity lines n = (k : Course capacity lines) (m : ℕ) → m < n → answers k m ≡ answer.Passed
+abbrev pub PassedBefore : Model → List (List ℕ) → ℕ → Type 0
+PassedBefore model lines n = (k : Course model lines) (m : ℕ) → m < n → answers k m ≡ answer.Passed
 
--- Yes: in every course every line answers 0; with it, a module of the capacity can be started, the script begins with
+-- Yes: in every course every line answers 0; with it, a module of the model can be started, the script begins with
 -- *RST and no line is over 256 bytes.
-pub record AllPass (capacity : ℕ) (lines : List (List ℕ)) : Type 0 where
-  pub startable : Startable capacity
+pub record AllPass (model : Model) (lines : List (List ℕ)) : Type 0 where
+  pub startable : Startable model
   pub begun : begins (leadOf lines) ≡ true
   pub short : (n : ℕ) → Short lines n
-  pub passed : (k : Course capacity lines) (n : ℕ) → answers k n ≡ answer.Passed
+  pub passed : (k : Course model lines) (n : ℕ) → answers k n ≡ answer.Passed
 
--- No, at a command and by another number than 7: in some course, which starts from a fresh module, line n is answered by
--- this refusal at this place; whatever the course, the lines up to n pass and n has no refusal at an earlier place.
-pub record FirstRefused (capacity : ℕ) (lines : List (List ℕ)) (n place : ℕ) (r : Refusal) : Type 0 where
-  pub witness : Course capacity lines
-  pub fresh : witness .start ≡ freshWorld capacity
+-- No, at a command and by another number than 7: in some course, which starts from a fresh module, line n is answered
+-- by this refusal at this place; whatever the course, the lines up to n pass and n has no refusal at an earlier place.
+pub record FirstRefused (model : Model) (lines : List (List ℕ)) (n place : ℕ) (r : Refusal) : Type 0 where
+  pub witness : Course model lines
+  pub fresh : witness .start ≡ freshWorld model
   pub refuses : answers witness n ≡ answer.Refused r place
-  pub before : PassedBefore capacity lines n
-  pub earlier : (k : Course capacity lines) (q : ℕ) (s : Refusal) → answers k n ≡ answer.Refused s q → place ≤ q
+  pub before : PassedBefore model lines n
+  pub earlier : (k : Course model lines) (q : ℕ) (s : Refusal) → answers k n ≡ answer.Refused s q → place ≤ q
 
 -- 7: the first command that is not empty is another than *RST, and no line up to it is over 256 bytes; or every command
 -- of the script is empty, which is told at line 1, place 1
@@ -102,25 +103,25 @@ pub data NotBegun (lines : List (List ℕ)) : ℕ → ℕ → Type 0 where
 
 -- 8, at place 0: line n is over 256 bytes; a first command on an earlier line is *RST, and the earlier lines pass,
 -- whatever the course
-pub record LongAt (capacity : ℕ) (lines : List (List ℕ)) (n place : ℕ) : Type 0 where
+pub record LongAt (model : Model) (lines : List (List ℕ)) (n place : ℕ) : Type 0 where
   pub nowhere : place ≡ 0
   pub long : tooLong (lineAt lines n) ≡ true
   pub begun : (m q : ℕ) (c : Parsed) → leadOf lines ≡ first m q c → m < n → isReset c ≡ true
-  pub before : PassedBefore capacity lines n
+  pub before : PassedBefore model lines n
 
--- the claim, of a capacity and a script
-pub record Demand3 (capacity : ℕ) (script : List ℕ) : Type 0 where
-  pub yes : (checkOf capacity script ≡ Fine) ↔ AllPass capacity (linesOf script)
-  pub no : (n place : ℕ) (r : Refusal) → checkOf capacity script ≡ No n place r
-      → r ≢ NoReset → r ≢ LongScriptLine → r ≢ BadTraces → FirstRefused capacity (linesOf script) n place r
+-- the claim, of a model and a script
+pub record Demand3 (model : Model) (script : List ℕ) : Type 0 where
+  pub yes : (checkOf model script ≡ Fine) ↔ AllPass model (linesOf script)
+  pub no : (n place : ℕ) (r : Refusal) → checkOf model script ≡ No n place r
+      → r ≢ NoReset → r ≢ LongScriptLine → r ≢ BadTraces → FirstRefused model (linesOf script) n place r
   pub seven : (n place : ℕ)
-      → (checkOf capacity script ≡ No n place NoReset) ↔ (Startable capacity × NotBegun (linesOf script) n place)
+      → (checkOf model script ≡ No n place NoReset) ↔ (Startable model × NotBegun (linesOf script) n place)
   pub eight : (n place : ℕ)
-      → (checkOf capacity script ≡ No n place LongScriptLine)
-      ↔ (Startable capacity × LongAt capacity (linesOf script) n place)
-  -- 9, at line 0 and place 0: the start refuses two traces of that length by 9
+      → (checkOf model script ≡ No n place LongScriptLine)
+      ↔ (Startable model × LongAt model (linesOf script) n place)
+  -- 9, at line 0 and place 0: the start refuses traces of the capacity by 9
   pub nine : (n place : ℕ)
-      → (checkOf capacity script ≡ No n place BadTraces)
-      ↔ (StartAnswers capacity (outcome.Refused BadTraces) × (n ≡ 0) × (place ≡ 0))
+      → (checkOf model script ≡ No n place BadTraces)
+      ↔ (StartAnswers model (outcome.Refused BadTraces) × (n ≡ 0) × (place ≡ 0))
   -- there are courses to speak of, from a fresh module
-  pub course : Startable capacity → (k : Course capacity (linesOf script)) × (k .start ≡ freshWorld capacity)
+  pub course : Startable model → (k : Course model (linesOf script)) × (k .start ≡ freshWorld model)

@@ -36,7 +36,7 @@ use Rattle.module.specs.Start.{unitKnown, tracesFit, freshModule, startOf}
 use Rattle.module.specs.Module.{allowedModule, guardOf}
 use Rattle.lockin.specs.Calls.{guarded, wholeLine, lineCall, guardedEvent, eventCall}
 use Rattle.two_courses.specs.Courses.{resets, measuredHigh, triggeredHigh, gapOf, kindRefusal, textRefusal, kindAfter, textAfter}
-use Rattle.script.specs.Check.{answerAt, textsAnswer, textsAfter, verdictOf, linesVerdict, withoutLast, checkOf}
+use Rattle.script.specs.Check.{answerAt, textsAnswer, textsAfter, lineAnswer, foundBy, found, withoutLast, checkOf}
 use Rattle.verdict.specs.Said.{said}
 use Rattle.examples.specs.Examples.{lineSeen, low16, wordOf, floatSeen, seenOf, table, Examples}
 
@@ -60,6 +60,6 @@ unfolding span onHead parts allDigits begins unsigned isMantissa isNumber decima
     unitKnown tracesFit freshModule startOf
     numbered numbersOf allowedModule guardOf guarded wholeLine lineCall guardedEvent eventCall
     resets measuredHigh triggeredHigh gapOf kindRefusal textRefusal kindAfter textAfter answerAt textsAnswer textsAfter
-    verdictOf linesVerdict withoutLast checkOf
+    lineAnswer foundBy found withoutLast checkOf
     lineSeen low16 wordOf floatSeen said seenOf table
 examples = (refl, (refl, (refl, (refl, (refl, (refl, (refl, (refl, (refl, (refl, (refl, (refl, (refl, (refl, (refl, (refl, tt))))))))))))))))

@@ -8,10 +8,11 @@ use Rattle.command.specs.Arguments.{arguments}
 use Rattle.command.specs.Parsed.{alone, setWith, parsedOf}
 use Rattle.change.specs.Change.{restoredBy, settingsAfter, storageBy, storageAfter, movingAfter}
 use Rattle.two_courses.specs.Courses.{resets, gapOf, kindRefusal, textRefusal, kindAfter, textAfter}
-use Rattle.script.specs.Check.{answerAt, textsAnswer, textsAfter, verdictOf, linesVerdict, withoutLast, checkOf}
+use Rattle.script.specs.Check.{answerAt, textsAnswer, textsAfter, lineAnswer, foundBy, found, withoutLast, checkOf}
 use Rattle.examples.specs.Scripts.{AtEveryCapacity}
 
 pub at-every-capacity : AtEveryCapacity
-unfolding span onHead parts begins cleaned meaningIn arguments alone setWith parsedOf restoredBy settingsAfter storageBy storageAfter movingAfter
-    resets gapOf kindRefusal textRefusal kindAfter textAfter answerAt textsAnswer textsAfter verdictOf linesVerdict withoutLast checkOf
-at-every-capacity capacity fits = record { reset-alone = rw fits refl; empty = rw fits refl }
+unfolding span onHead parts begins cleaned meaningIn arguments alone setWith parsedOf restoredBy settingsAfter storageBy
+    storageAfter movingAfter resets gapOf kindRefusal textRefusal kindAfter textAfter answerAt textsAnswer textsAfter
+    lineAnswer foundBy found withoutLast checkOf
+at-every-capacity model fits = record { reset-alone = rw fits refl; empty = rw fits refl }

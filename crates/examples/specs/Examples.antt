@@ -15,6 +15,7 @@ use Rattle.module.specs.declared.Module.{Module}
 use Rattle.refusal.specs.declared.Numbers.{Numbers}
 use Rattle.module.specs.Start.{startOf}
 use Rattle.lockin.specs.Calls.{lineCall, eventCall}
+use Rattle.two_courses.specs.Model.{modelOf}
 use Rattle.script.specs.Check.{checkOf}
 use Rattle.verdict.specs.Said.{Said, ok, no, said}
 
@@ -82,7 +83,7 @@ floatSeen word =
 unfoldable pub seenOf : Example → Seen
 seenOf (line text) = lineSeen fresh zeros zeros text
 seenOf (trcb m e) = floatSeen (wordOf m e)
-seenOf (script capacity first second) = verdict (said (checkOf capacity (bytes first ++ (10 ∷ bytes second))))
+seenOf (script capacity first second) = verdict (said (checkOf (modelOf capacity) (bytes first ++ (10 ∷ bytes second))))
 
 -- ---- what the table says
 

@@ -2,6 +2,7 @@
 use calls::Call;
 use lockin::Module;
 use operations::Operation;
+use script::Model;
 
 // The module that the operations drive, and how many slots each of the traces lent to it has.
 pub struct Driven {
@@ -35,7 +36,8 @@ fn answer(
         Operation::Dump => dump::tell(m, one, two),
         Operation::Poll => calls::tell_poll(m),
         Operation::Check(capacity, len) => {
-            verdict_text::tell(script::check(capacity, terminal::first_of(bytes, len)))
+            let model = Model::of_capacity(capacity);
+            verdict_text::tell(script::check(model, terminal::first_of(bytes, len)))
         }
         _ => calls::refuse(),
     }

@@ -13,33 +13,59 @@ use Rattle.refusal.specs.declared.Refusal.{Refusal}
 use Rattle.refusal.specs.declared.Refusal.the-variants.{NoReset, LongScriptLine}
 use Rattle.clean.specs.Texts.{textsOf}
 use Rattle.refusal.specs.declared.Answer.the-variants as answer
+use Rattle.two_courses.specs.declared.Model.{Model}
 use Rattle.two_courses.specs.Courses.{gapOf, startBoth}
 use Rattle.two_courses.specs.declared.Both.{Both}
 use Rattle.script.specs.declared.Swept.{Swept}
+use Rattle.verdict.specs.declared.Verdict.{Verdict}
 use Rattle.verdict.specs.declared.Verdict.the-variants.{Fine, No}
-use Rattle.script.specs.Check.{verdictOf, linesVerdict, linesOf}
+use Rattle.script.specs.Check.{Found, fine, noCommand, stop, later, lineAnswer, foundBy, found, verdictOf}
+use Rattle.script.specs.Check.{linesOf}
 use Rattle.script.specs.Parts.{Sweeps}
 use Rattle.script.proofs.Parts.{lines-first, lines-none}
 
+-- the verdict on what is found in the lines from a line number on
+abbrev numbered : ℕ → Found → Verdict
+numbered line fine = Fine
+numbered line noCommand = No 1 1 NoReset
+numbered line (stop i place r) = No (line + i) place r
+
+from-one : (v : Found) → verdictOf v ≡ numbered 1 v
+from-one fine = refl
+from-one noCommand = refl
+from-one (stop i place r) = let z : suc i ≡ 1 + i = omega arith in rw z
+
+from-here : (line place : ℕ) (r : Refusal) → numbered line (stop 0 place r) ≡ No line place r
+from-here line place r = let z : line + 0 ≡ line = omega arith in rw z
+
+from-next : (line : ℕ) (v : Found) → numbered line (later v) ≡ numbered (line + 1) v
+from-next line fine = refl
+from-next line noCommand = refl
+from-next line (stop i place r) = let z : line + suc i ≡ line + 1 + i = omega arith in rw z
+
 -- what is left of the script says from here what the whole says from the start
-pub record Left (capacity : ℕ) (script : List ℕ) (b : Both) (line a : ℕ) : Type 0 where
-  pub told : linesVerdict capacity 1 (linesOf script) startBoth ≡ linesVerdict capacity line (linesOf (drop a script)) b
+pub record Left (model : Model) (script : List ℕ) (b : Both) (line a : ℕ) : Type 0 where
+  pub told : verdictOf (found model (linesOf script) startBoth)
+      ≡ numbered line (found model (linesOf (drop a script)) b)
   pub counted : line ≤ a + 1
 
 -- a part of a script is as long as its ends tell, or shorter
 pub part-length : (script : List ℕ) (a e : ℕ) → length (take (e - a) (drop a script)) ≤ e - a
 part-length script a e = omega (arith, length-take (e - a) (drop a script))
 
-pub at-start : (capacity : ℕ) (script : List ℕ) → Left capacity script startBoth 1 0
-at-start capacity script = record { told = refl; counted = omega arith }
+pub at-start : (model : Model) (script : List ℕ) → Left model script startBoth 1 0
+at-start model script = record { told = from-one (found model (linesOf script) startBoth); counted = omega arith }
 
-module _ {capacity : ℕ} {script : List ℕ} {b : Both} {line a : ℕ} (v : Left capacity script b line a) where
-  pub over-yes : length script ≤ a → b .begun ≡ true → Fine ≡ linesVerdict capacity 1 (linesOf script) startBoth
-  unfolding linesVerdict
+module _ {model : Model} {script : List ℕ} {b : Both} {line a : ℕ} (v : Left model script b line a) where
+  abbrev whole : Verdict
+  whole = verdictOf (found model (linesOf script) startBoth)
+
+  pub over-yes : length script ≤ a → b .begun ≡ true → Fine ≡ whole
+  unfolding found
   over-yes h e = sym (v .told ∙ rw (lines-none script a h, e))
 
-  pub over-no : length script ≤ a → b .begun ≡ false → No 1 1 NoReset ≡ linesVerdict capacity 1 (linesOf script) startBoth
-  unfolding linesVerdict
+  pub over-no : length script ≤ a → b .begun ≡ false → No 1 1 NoReset ≡ whole
+  unfolding found
   over-no h e = sym (v .told ∙ rw (lines-none script a h, e))
 
   module _ (l : a < length script) (e : ℕ) (at-e : e ≡ a + span 10 (drop a script)) where
@@ -56,20 +82,26 @@ module _ {capacity : ℕ} {script : List ℕ} {b : Both} {line a : ℕ} (v : Lef
         let m = span-le 10 (drop a script) in
         length-take-le (e - a) (drop a script) (omega arith)
 
-    pub too-long : 256 < e - a → No line 0 LongScriptLine ≡ linesVerdict capacity 1 (linesOf script) startBoth
-    unfolding linesVerdict
-    too-long h = sym (v .told ∙ rw (here, size, lt-ltb 256 (e - a) h))
+    pub too-long : 256 < e - a → No line 0 LongScriptLine ≡ whole
+    unfolding found foundBy lineAnswer
+    too-long h = sym (v .told ∙ rw (here, size, lt-ltb 256 (e - a) h) (from-here line 0 LongScriptLine))
 
-    module _ (h : e - a ≤ 256) (s : Swept) (sw : Sweeps capacity (textsOf (take (e - a) (drop a script))) (gapOf capacity b) s) where
-      pub named : (r : Refusal) (place : ℕ) → s .answer ≡ answer.Refused r place → No line place r ≡ linesVerdict capacity 1 (linesOf script) startBoth
-      unfolding linesVerdict verdictOf
-      named r place f = sym (v .told ∙ rw (here, size, le-ltb 256 (e - a) h, ← sw .told, f))
+    module _ (h : e - a ≤ 256) (s : Swept)
+        (sw : Sweeps model (textsOf (take (e - a) (drop a script))) (gapOf model b) s) where
+      answered : lineAnswer model (take (e - a) (drop a script)) b ≡ s .answer
+      unfolding lineAnswer
+      answered = rw (size, le-ltb 256 (e - a) h, ← sw .told)
 
-      pub onward : s .answer ≡ answer.Passed → e ≤ length script → Left capacity script (s .both) (line + 1) (e + 1)
-      unfolding linesVerdict verdictOf
+      pub named : (r : Refusal) (place : ℕ) → s .answer ≡ answer.Refused r place → No line place r ≡ whole
+      unfolding found foundBy
+      named r place f = sym (v .told ∙ rw (here, answered, f) (from-here line place r))
+
+      pub onward : s .answer ≡ answer.Passed → e ≤ length script → Left model script (s .both) (line + 1) (e + 1)
+      unfolding found foundBy
       onward f g =
           let c = v .counted in
+          let rest = found model (linesOf (drop (e + 1) script)) (s .both) in
           record {
-            told = v .told ∙ rw (here, size, le-ltb 256 (e - a) h, ← sw .told, f, ← sw .past f);
+            told = v .told ∙ rw (here, answered, f, ← sw .past f) (from-next line rest);
             counted = omega arith;
           }

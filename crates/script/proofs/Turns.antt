@@ -13,45 +13,46 @@ use Rattle.command.specs.declared.Parsed.{Parsed}
 use Rattle.clean.specs.Texts.{semicolon}
 use Rattle.refusal.specs.declared.Answer.the-variants as answer
 use Rattle.two_courses.specs.Courses.{textRefusal, textAfter}
+use Rattle.two_courses.specs.declared.Model.{Model}
 use Rattle.two_courses.specs.declared.Both.{Both}
 use Rattle.script.specs.Check.{answerAt, textsAnswer, textsAfter}
 use Rattle.script.specs.Parts.{Sweeps}
 
 -- what is left of the line answers from here what the whole answers from the start
-pub record OnWay (capacity : ℕ) (text : List ℕ) (b₀ : Both) (b : Both) (place a : ℕ) : Type 0 where
+pub record OnWay (model : Model) (text : List ℕ) (b₀ : Both) (b : Both) (place a : ℕ) : Type 0 where
   pub inside : a ≤ length text
-  pub told : textsAnswer capacity 1 (parts semicolon text) b₀ ≡ textsAnswer capacity place (parts semicolon (drop a text)) b
-  pub past : textsAfter capacity (parts semicolon text) b₀ ≡ textsAfter capacity (parts semicolon (drop a text)) b
+  pub told : textsAnswer model 1 (parts semicolon text) b₀ ≡ textsAnswer model place (parts semicolon (drop a text)) b
+  pub past : textsAfter model (parts semicolon text) b₀ ≡ textsAfter model (parts semicolon (drop a text)) b
   pub counted : place ≤ a + 1
 
-module _ {capacity : ℕ} {text : List ℕ} {b₀ b : Both} {place a : ℕ} (v : OnWay capacity text b₀ b place a)
+module _ {model : Model} {text : List ℕ} {b₀ b : Both} {place a : ℕ} (v : OnWay model text b₀ b place a)
     (e : ℕ) (at-e : e ≡ a + span semicolon (drop a text)) (p : Parsed) (read : p ≡ parsedOf (take (e - a) (drop a text))) where
   here : parts semicolon (drop a text) ≡ take (e - a) (drop a text) ∷ drop 1 (parts semicolon (drop a text))
   here = part-first semicolon text a e (v .inside) at-e
 
-  answered : textsAnswer capacity 1 (parts semicolon text) b₀ ≡ answerAt (textRefusal p b) place
-      (textsAnswer capacity (place + 1) (drop 1 (parts semicolon (drop a text))) (textAfter capacity p b))
+  answered : textsAnswer model 1 (parts semicolon text) b₀ ≡ answerAt (textRefusal p b) place
+      (textsAnswer model (place + 1) (drop 1 (parts semicolon (drop a text))) (textAfter model p b))
   unfolding textsAnswer
-  answered = v .told ∙ ap (λ ts. textsAnswer capacity place ts b) here ∙ rw read
+  answered = v .told ∙ ap (λ ts. textsAnswer model place ts b) here ∙ rw read
 
-  went : textsAfter capacity (parts semicolon text) b₀ ≡ textsAfter capacity (drop 1 (parts semicolon (drop a text))) (textAfter capacity p b)
+  went : textsAfter model (parts semicolon text) b₀ ≡ textsAfter model (drop 1 (parts semicolon (drop a text))) (textAfter model p b)
   unfolding textsAfter
-  went = v .past ∙ ap (λ ts. textsAfter capacity ts b) here ∙ rw read
+  went = v .past ∙ ap (λ ts. textsAfter model ts b) here ∙ rw read
 
   pub refused : (r : Refusal) (last : Both) → textRefusal p b ≡ outcome.Refused r →
-      Sweeps capacity (parts semicolon text) b₀ (record { both = last; answer = answer.Refused r place })
+      Sweeps model (parts semicolon text) b₀ (record { both = last; answer = answer.Refused r place })
   unfolding answerAt
   refused r last f =
       record { told = sym (answered ∙ rw f); past = λ z. let n : _≡_ {A = ℕ} 0 1 = cc in absurd (omega arith) }
 
   pub ended : textRefusal p b ≡ outcome.Done → e ≡ length text →
-      Sweeps capacity (parts semicolon text) b₀ (record { both = textAfter capacity p b; answer = answer.Passed })
+      Sweeps model (parts semicolon text) b₀ (record { both = textAfter model p b; answer = answer.Passed })
   unfolding answerAt textsAnswer textsAfter
   ended f l =
       let n = part-last semicolon text a e (v .inside) at-e l in
       record { told = sym (answered ∙ rw (f, n)); past = λ z. sym (went ∙ rw n) }
 
-  pub again : textRefusal p b ≡ outcome.Done → e < length text → OnWay capacity text b₀ (textAfter capacity p b) (place + 1) (e + 1)
+  pub again : textRefusal p b ≡ outcome.Done → e < length text → OnWay model text b₀ (textAfter model p b) (place + 1) (e + 1)
   unfolding answerAt
   again f l =
       let c = v .counted in

@@ -1,54 +1,93 @@
 -- The script check: document 01, "The script check".
-use Prim.Native.Nat.{ℕ, _+_}
+use Prim.Native.Nat.{ℕ, suc, _+_}
 use mathlib.Core.Bool.{Bool, cond}
 use mathlib.Core.List.{List, [], _∷_}
 use lib.Dec.{ltb}
 use lib.ListN.{length}
 use Rattle.divide.specs.Divide.{parts}
+use Rattle.refusal.specs.declared.Refusal.{Refusal}
 use Rattle.refusal.specs.declared.Refusal.the-variants.{NoReset, LongScriptLine, BadTraces}
 use Rattle.refusal.specs.declared.Outcome.{Outcome}
 use Rattle.refusal.specs.declared.Outcome.the-variants as outcome
-pub use Rattle.settings.specs.Limits.{capacityFits}
 use Rattle.command.specs.Parsed.{parsedOf}
 use Rattle.clean.specs.Clean.{lineLimit}
 use Rattle.clean.specs.Texts.{textsOf}
 use Rattle.refusal.specs.declared.Answer.{Answer}
 use Rattle.refusal.specs.declared.Answer.the-variants as answer
+use Rattle.two_courses.specs.Model.{modelFits}
+use Rattle.two_courses.specs.declared.Model.{Model}
 use Rattle.two_courses.specs.Courses.{gapOf, textRefusal, textAfter, startBoth}
 use Rattle.two_courses.specs.declared.Both.{Both}
 use Rattle.verdict.specs.declared.Verdict.{Verdict}
 use Rattle.verdict.specs.declared.Verdict.the-variants.{Fine, No}
 
--- a line's commands, from a place on: the first refusal, and what is carried past them
+-- ---- a line
+
+-- the answer to a line's commands from a place on: a refusal of the first one, else what the later ones answer
 unfoldable pub answerAt : Outcome → ℕ → Answer → Answer
 answerAt outcome.Done place later = later
 answerAt (outcome.Refused r) place later = answer.Refused r place
 
-unfoldable pub textsAnswer : ℕ → ℕ → List (List ℕ) → Both → Answer
-textsAnswer capacity place [] b = answer.Passed
-textsAnswer capacity place (t ∷ ts) b =
+unfoldable pub textsAnswer : Model → ℕ → List (List ℕ) → Both → Answer
+textsAnswer model place [] b = answer.Passed
+textsAnswer model place (t ∷ ts) b =
     let p = parsedOf t in
-    answerAt (textRefusal p b) place (textsAnswer capacity (place + 1) ts (textAfter capacity p b))
+    answerAt (textRefusal p b) place (textsAnswer model (place + 1) ts (textAfter model p b))
 
-unfoldable pub textsAfter : ℕ → List (List ℕ) → Both → Both
-textsAfter capacity [] b = b
-textsAfter capacity (t ∷ ts) b = textsAfter capacity ts (textAfter capacity (parsedOf t) b)
+-- what is carried past a line's commands
+unfoldable pub textsAfter : Model → List (List ℕ) → Both → Both
+textsAfter model [] b = b
+textsAfter model (t ∷ ts) b = textsAfter model ts (textAfter model (parsedOf t) b)
 
 -- "script line over 256 bytes"
 abbrev pub tooLong : List ℕ → Bool
 tooLong line = ltb lineLimit (length line)
 
--- "line by line: 8 (place 0), then 7, .., then 1 to 3"; "A script with none is 7 at line 1, place 1."
-unfoldable pub verdictOf : Answer → ℕ → Verdict → Verdict
-verdictOf answer.Passed line later = later
-verdictOf (answer.Refused r place) line later = No line place r
+-- the answer to a line, with what can happen before it: "8 (place 0), then 7, .., then 1 to 3"
+unfoldable pub lineAnswer : Model → List ℕ → Both → Answer
+lineAnswer model l b =
+    cond (tooLong l) (answer.Refused LongScriptLine 0) (textsAnswer model 1 (textsOf l) (gapOf model b))
 
-unfoldable pub linesVerdict : ℕ → ℕ → List (List ℕ) → Both → Verdict
-linesVerdict capacity line [] b = cond (b .begun) Fine (No 1 1 NoReset)
-linesVerdict capacity line (l ∷ ls) b =
-    let gap = gapOf capacity b in
-    cond (tooLong l) (No line 0 LongScriptLine)
-    (verdictOf (textsAnswer capacity 1 (textsOf l) gap) line (linesVerdict capacity (line + 1) ls (textsAfter capacity (textsOf l) gap)))
+-- what is carried past a line
+abbrev pub lineAfter : Model → List ℕ → Both → Both
+lineAfter model l b = textsAfter model (textsOf l) (gapOf model b)
+
+-- ---- a list of lines
+
+-- what is found in a list of lines: nothing is refused; there is no command at all; or the first refusal, with the
+-- index
+-- of its line, counted from 0, and its place
+pub data Found : Type 0 where
+  fine : Found
+  noCommand : Found
+  stop : (index place : ℕ) (r : Refusal) → Found
+
+-- the same, behind one more line
+abbrev pub later : Found → Found
+later fine = fine
+later noCommand = noCommand
+later (stop i place r) = stop (suc i) place r
+
+-- a line's answer, and what is found behind it
+unfoldable pub foundBy : Answer → Found → Found
+foundBy answer.Passed behind = later behind
+foundBy (answer.Refused r place) behind = stop 0 place r
+
+unfoldable pub found : Model → List (List ℕ) → Both → Found
+found model [] b = cond (b .begun) fine noCommand
+found model (l ∷ ls) b = foundBy (lineAnswer model l b) (found model ls (lineAfter model l b))
+
+-- ---- the verdict
+
+-- the number of the line at an index, counted from 1
+abbrev pub lineNumber : ℕ → ℕ
+lineNumber i = suc i
+
+-- "A script with none is 7 at line 1, place 1."
+abbrev pub verdictOf : Found → Verdict
+verdictOf fine = Fine
+verdictOf noCommand = No 1 1 NoReset
+verdictOf (stop i place r) = No (lineNumber i) place r
 
 -- "a script (lines ended by LF, the last may lack it ..)": nothing after the last LF is no line
 unfoldable pub withoutLast : List (List ℕ) → List (List ℕ)
@@ -60,9 +99,11 @@ withoutLast (l ∷ []) = lastLine l
     lastLine (b ∷ bs) = (b ∷ bs) ∷ []
 withoutLast (l ∷ m ∷ more) = l ∷ withoutLast (m ∷ more)
 
+-- the lines of a script
 abbrev pub linesOf : List ℕ → List (List ℕ)
 linesOf script = withoutLast (parts 10 script)
 
 -- "9 first (line 0, place 0)"
-unfoldable pub checkOf : ℕ → List ℕ → Verdict
-checkOf capacity script = cond (capacityFits capacity) (linesVerdict capacity 1 (linesOf script) startBoth) (No 0 0 BadTraces)
+unfoldable pub checkOf : Model → List ℕ → Verdict
+checkOf model script =
+    cond (modelFits model) (verdictOf (found model (linesOf script) startBoth)) (No 0 0 BadTraces)

@@ -7,13 +7,13 @@ ghost use Rattle.clean.specs.Clean.{lineLimit};
 ghost use Rattle.clean.specs.Texts.{semicolon, textsOf};
 ghost use Rattle.two_courses.specs.Courses.{gapOf, startBoth};
 ghost use Rattle.verdict.specs.Said.{said};
-ghost use Rattle.script.specs.Check.{linesVerdict, linesOf, capacityFits, checkOf};
+ghost use Rattle.script.specs.Check.{found, verdictOf, linesOf, checkOf};
 ghost use Rattle.script.specs.Parts.{Sweeps};
 use refusal::Answer;
 use refusal::Outcome;
 pub use refusal::Refusal;
-use settings::Settings;
 use two_courses::Both;
+pub use two_courses::Model;
 pub use verdict::Verdict;
 pub use verdict::number_of;
 
@@ -24,9 +24,9 @@ pub struct Swept {
 }
 
 // The commands of a cleaned line, up to one that is refused.
-fn sweep(capacity: u32, b: Both, text: &[u8]) -> Swept
+fn sweep(model: Model, b: Both, text: &[u8]) -> Swept
     requires { ⌜ length (now text) < 257 ⌝ }
-    ensures { λ r. ⌜ Sweeps capacity (parts semicolon (now (text .entry))) b r ⌝ }
+    ensures { λ r. ⌜ Sweeps model (parts semicolon (now (text .entry))) b r ⌝ }
 {
     let mut both = b;
     let mut place = 1;
@@ -41,7 +41,7 @@ fn sweep(capacity: u32, b: Both, text: &[u8]) -> Swept
                 answer: Answer::Refused(refusal, place),
             };
         }
-        both = two_courses::text_after(capacity, p, both);
+        both = two_courses::text_after(model, p, both);
         if e == text.len() {
             return Swept {
                 both,
@@ -54,19 +54,19 @@ fn sweep(capacity: u32, b: Both, text: &[u8]) -> Swept
 }
 
 // A line of at most 256 bytes, with what can happen before it.
-fn sweep_line(capacity: u32, b: Both, line: &[u8]) -> Swept
+fn sweep_line(model: Model, b: Both, line: &[u8]) -> Swept
     requires { ⌜ length (now line) ≤ lineLimit ⌝ }
-    ensures { λ r. ⌜ Sweeps capacity (textsOf (now (line .entry))) (gapOf capacity b) r ⌝ }
+    ensures { λ r. ⌜ Sweeps model (textsOf (now (line .entry))) (gapOf model b) r ⌝ }
 {
     let c = clean::clean(line);
     let bytes = c.bytes;
     let len = c.len;
-    sweep(capacity, two_courses::gap(capacity, b), &bytes[0..len])
+    sweep(model, two_courses::gap(model, b), &bytes[0..len])
 }
 
 // The lines of a script, up to one that is too long or refused.
-fn check_lines(capacity: u32, script: &[u8]) -> Verdict
-    ensures { λ r. ⌜ r ≡ linesVerdict capacity 1 (linesOf (now (script .entry))) startBoth ⌝ }
+fn check_lines(model: Model, script: &[u8]) -> Verdict
+    ensures { λ r. ⌜ r ≡ verdictOf (found model (linesOf (now (script .entry))) startBoth) ⌝ }
 {
     let mut both = two_courses::start_both();
     let mut line = 1;
@@ -76,7 +76,7 @@ fn check_lines(capacity: u32, script: &[u8]) -> Verdict
         if clean::LINE < e - a {
             return Verdict::No(line, 0, Refusal::LongScriptLine);
         }
-        let swept = sweep_line(capacity, both, &script[a..e]);
+        let swept = sweep_line(model, both, &script[a..e]);
         let answer = swept.answer;
         if let Answer::Refused(refusal, place) = answer {
             return Verdict::No(line, place, refusal);
@@ -92,23 +92,13 @@ fn check_lines(capacity: u32, script: &[u8]) -> Verdict
     Verdict::No(1, 1, Refusal::NoReset)
 }
 
-// A capacity that traces can have, else refusal 9.
-pub fn capacity_fits(capacity: u32) -> bool
-    ensures { λ r. ⌜ r ≡ capacityFits capacity ⌝ }
+// Whether a script can be refused in any course, run by a module of what is told.
+pub fn check(model: Model, script: &[u8]) -> Verdict
+    ensures { λ r. ⌜ r ≡ checkOf model (now (script .entry)) ⌝ }
+    ensures { λ r. ⌜ said r ≡ said (checkOf model (now (script .entry))) ⌝ }
 {
-    if capacity < Settings::CAPACITY_LEAST {
-        return false;
-    }
-    capacity <= Settings::CAPACITY_MOST
-}
-
-// Whether any course of a script can be refused, at a capacity.
-pub fn check(capacity: u32, script: &[u8]) -> Verdict
-    ensures { λ r. ⌜ r ≡ checkOf capacity (now (script .entry)) ⌝ }
-    ensures { λ r. ⌜ said r ≡ said (checkOf capacity (now (script .entry))) ⌝ }
-{
-    if capacity_fits(capacity) {
-        return check_lines(capacity, script);
+    if two_courses::model_fits(model) {
+        return check_lines(model, script);
     }
     Verdict::No(0, 0, Refusal::BadTraces)
 }

@@ -8,7 +8,8 @@ use lib.Dec.{leb, ltb}
 use borrow.Author.Tests.{lt-ltb, le-ltb, ltb-true, ltb-false, lt-leb}
 use Rattle.number.specs.Number.{isDigit, allDigits}
 use Rattle.number.specs.Value.{decimalAfter}
-use Rattle.script.specs.Check.{capacityFits, checkOf}
+use Rattle.settings.specs.Limits.{capacityFits}
+use Rattle.script.specs.Check.{checkOf}
 use Rattle.script_input.specs.Input.{capacityOf, limitedCheck}
 use Rattle.input_bytes.specs.Taken.{capacityAfter}
 

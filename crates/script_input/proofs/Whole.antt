@@ -11,8 +11,10 @@ use native.Mathlib.Numerals.{add-one}
 use borrow.Author.Tests.{lt-ltb, le-ltb, leb-true, leb-false, ltb-true, ltb-false}
 use Rattle.divide.specs.Divide.{span, before, after}
 use Rattle.refusal.specs.declared.Refusal.the-variants.{LongScriptLine, BadTraces}
+use Rattle.settings.specs.Limits.{capacityFits}
+use Rattle.two_courses.specs.Model.{modelOf}
 use Rattle.two_courses.specs.Courses.{startBoth}
-use Rattle.script.specs.Check.{capacityFits, checkOf, linesVerdict, linesOf}
+use Rattle.script.specs.Check.{found, verdictOf, linesOf, checkOf}
 use Rattle.verdict.specs.declared.Verdict.{Verdict}
 use Rattle.verdict.specs.declared.Verdict.the-variants.{No}
 use Rattle.script_input.specs.Input.{scriptLimit, capacityOf, limitedCheck, saidOf}
@@ -134,8 +136,11 @@ enough c n script h = by (leb (length script) n) refl
         let m = length-take-le n script (omega arith) in
         rw (m, lt-ltb scriptLimit n h, lt-ltb scriptLimit (length script) (omega arith)) (either (capacityFits c))
       where
-        either : (t : Bool) → cond t (No 0 0 LongScriptLine) (cond t (linesVerdict c 1 (linesOf (take n script)) startBoth) (No 0 0 BadTraces))
-            ≡ cond t (No 0 0 LongScriptLine) (cond t (linesVerdict c 1 (linesOf script) startBoth) (No 0 0 BadTraces))
+        finds : List ℕ → Verdict
+        finds lines = verdictOf (found (modelOf c) (linesOf lines) startBoth)
+
+        either : (t : Bool) → cond t (No 0 0 LongScriptLine) (cond t (finds (take n script)) (No 0 0 BadTraces))
+            ≡ cond t (No 0 0 LongScriptLine) (cond t (finds script) (No 0 0 BadTraces))
         either true = refl
         either false = refl
 

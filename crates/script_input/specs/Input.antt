@@ -9,7 +9,9 @@ use Rattle.number.specs.Number.{allDigits}
 use Rattle.number.specs.Value.{decimal}
 use Rattle.refusal.specs.declared.Refusal.the-variants.{LongScriptLine}
 use Rattle.input_bytes.specs.Taken.{lineFeed}
-use Rattle.script.specs.Check.{capacityFits, checkOf}
+use Rattle.settings.specs.Limits.{capacityFits}
+use Rattle.two_courses.specs.Model.{modelOf}
+use Rattle.script.specs.Check.{checkOf}
 use Rattle.verdict.specs.declared.Verdict.{Verdict}
 use Rattle.verdict.specs.declared.Verdict.the-variants.{No}
 use Rattle.verdict_text.specs.Text.{verdictText}
@@ -25,7 +27,8 @@ scriptLimit = 60000
 -- "more is `no 0 0 8`, unless 9 applies"
 unfoldable pub limitedCheck : ℕ → List ℕ → Verdict
 limitedCheck capacity script =
-    cond (ltb scriptLimit (length script) && capacityFits capacity) (No 0 0 LongScriptLine) (checkOf capacity script)
+    cond (ltb scriptLimit (length script) && capacityFits capacity) (No 0 0 LongScriptLine)
+    (checkOf (modelOf capacity) script)
 
 -- "The check program reads the capacity .. on line one .., then .. script bytes"
 unfoldable pub saidOf : List ℕ → Verdict

@@ -9,6 +9,7 @@ mod source;
 
 use input_bytes::Input;
 use refusal::Refusal;
+use script::Model;
 pub use source::buffer;
 pub use source::read_all;
 use verdict::Verdict;
@@ -21,10 +22,11 @@ const LIMIT: usize = 60000;
 pub fn verdict_of(capacity: u32, script: &[u8]) -> Verdict
     ensures { λ r. ⌜ r ≡ limitedCheck capacity (now (script .entry)) ⌝ }
 {
+    let model = Model::of_capacity(capacity);
     if script.len() <= LIMIT {
-        return script::check(capacity, script);
+        return script::check(model, script);
     }
-    if script::capacity_fits(capacity) {
+    if two_courses::model_fits(model) {
         return Verdict::No(0, 0, Refusal::LongScriptLine);
     }
     Verdict::No(0, 0, Refusal::BadTraces)

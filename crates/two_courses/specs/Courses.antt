@@ -17,6 +17,7 @@ use Rattle.state.specs.State.{atFrequency, withStorage, samplingOf, startMoving
 use Rattle.state.specs.declared.Moving.{Moving}
 use Rattle.allow.specs.Allows.{allowsOf}
 use Rattle.change.specs.Change.{isReset, settingsAfter, movingAfter}
+use Rattle.two_courses.specs.declared.Model.{Model}
 use Rattle.two_courses.specs.declared.Both.{Both}
 
 -- "a well-formed *RST"
@@ -25,49 +26,55 @@ resets (Set a) = false
 resets (Query q) = false
 resets (Act a) = isReset a
 
--- before each line: the high course measures the highest frequency that is taken, the limit over the harmonic, and then has a trigger
+-- before each line the high course measures the highest frequency that is taken, the limit over the harmonic ..
 unfoldable pub measuredHigh : Settings → Moving → Moving
 measuredHigh s m =
     cond (eqb (valueOf s fmod) 1) m (atFrequency (detectionLimit / valueOf s harm) m)
 
+-- .. and then has a trigger
 unfoldable pub triggeredHigh : ℕ → Settings → Moving → Moving
 triggeredHigh capacity s m = withStorage (triggeredOf (m .storage) capacity (samplingOf s) .storage) m
 
-unfoldable pub gapOf : ℕ → Both → Both
-gapOf capacity b =
+-- what can happen before a line
+unfoldable pub gapOf : Model → Both → Both
+gapOf model b =
     record {
       begun = b .begun;
       settings = b .settings;
       low = b .low;
-      high = triggeredHigh capacity (b .settings) (measuredHigh (b .settings) (b .high));
+      high = triggeredHigh (model .capacity) (b .settings) (measuredHigh (b .settings) (b .high));
     }
 
--- "7, at the first command that isn't empty, unless that is a well-formed *RST, then 1 to 3": 3 where one of the two courses refuses
+-- "7, at the first command that isn't empty, unless that is a well-formed *RST, then 1 to 3": 3 where one of the two
+-- courses refuses
 unfoldable pub kindRefusal : Kind → Both → Outcome
 kindRefusal kind b =
     cond (b .begun)
-    (cond (allowsOf (b .settings) (b .low) kind && allowsOf (b .settings) (b .high) kind) outcome.Done (outcome.Refused NotAllowed))
+    (cond (allowsOf (b .settings) (b .low) kind && allowsOf (b .settings) (b .high) kind) outcome.Done
+    (outcome.Refused NotAllowed))
     (cond (resets kind) outcome.Done (outcome.Refused NoReset))
 
+-- the same of a command as it is read: 1 and 2 are its text's own
 unfoldable pub textRefusal : Parsed → Both → Outcome
 textRefusal parsed.Empty b = outcome.Done
 textRefusal (parsed.Refused r) b = outcome.Refused (cond (b .begun) r NoReset)
 textRefusal (parsed.Taken c) b = kindRefusal (c .kind) b
 
--- a command that no course refuses
-unfoldable pub kindAfter : ℕ → Kind → Both → Both
-kindAfter capacity kind b =
+-- past a command that no course refuses
+unfoldable pub kindAfter : Model → Kind → Both → Both
+kindAfter model kind b =
     record {
       begun = b .begun || resets kind;
       settings = settingsAfter kind (b .settings);
-      low = movingAfter kind (b .settings) (b .low) capacity;
-      high = movingAfter kind (b .settings) (b .high) capacity;
+      low = movingAfter kind (b .settings) (b .low) (model .capacity);
+      high = movingAfter kind (b .settings) (b .high) (model .capacity);
     }
 
-unfoldable pub textAfter : ℕ → Parsed → Both → Both
-textAfter capacity parsed.Empty b = b
-textAfter capacity (parsed.Refused r) b = b
-textAfter capacity (parsed.Taken c) b = kindAfter capacity (c .kind) b
+unfoldable pub textAfter : Model → Parsed → Both → Both
+textAfter model parsed.Empty b = b
+textAfter model (parsed.Refused r) b = b
+textAfter model (parsed.Taken c) b = kindAfter model (c .kind) b
 
+-- what is carried into a script
 abbrev pub startBoth : Both
 startBoth = record { begun = false; settings = startSettings; low = startMoving; high = startMoving }

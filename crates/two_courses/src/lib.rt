@@ -1,8 +1,11 @@
-// The two courses that the check follows: what can happen before a line, which commands are refused, and what is carried past the others.
+// The two courses that the check follows: what can happen before a line, which commands are refused, and what is
+// carried past the others.
 ghost use mathlib.Core.Path.{_≡_};
 ghost use Prim.Native.Nat.{_/_};
 ghost use Rattle.settings.specs.Limits.{detectionLimit};
-ghost use Rattle.two_courses.specs.Courses.{resets, measuredHigh, triggeredHigh, gapOf, kindRefusal, textRefusal, kindAfter, textAfter, startBoth};
+ghost use Rattle.two_courses.specs.Model.{modelOf, modelFits};
+ghost use Rattle.two_courses.specs.Courses.{resets, measuredHigh, triggeredHigh, gapOf};
+ghost use Rattle.two_courses.specs.Courses.{kindRefusal, textRefusal, kindAfter, textAfter, startBoth};
 ghost use Rattle.two_courses.specs.Parts.{earlyOf, begunAfter};
 use command::Kind;
 use command::Parsed;
@@ -11,8 +14,34 @@ use refusal::Refusal;
 use settings::Settings;
 use state::Moving;
 
-// What the check carries from command to command: whether *RST has begun the script, the settings, which every course shares, and the moving parts of
-// two courses: low has no events, high has at each gap the highest frequency that can be measured and then a trigger.
+// What the check is told of the modules that may run a script: how many points each of their traces holds. Document 01,
+// "The script check", tells it nothing else.
+pub struct Model {
+    pub capacity: u32,
+}
+
+impl Model {
+    // The modules whose traces have a capacity.
+    pub fn of_capacity(capacity: u32) -> Model
+        ensures { λ r. ⌜ r ≡ modelOf capacity ⌝ }
+    {
+        Model { capacity }
+    }
+}
+
+// Whether there can be such a module: a capacity that traces can have, else refusal 9.
+pub fn model_fits(model: Model) -> bool
+    ensures { λ r. ⌜ r ≡ modelFits model ⌝ }
+{
+    if model.capacity < Settings::CAPACITY_LEAST {
+        return false;
+    }
+    model.capacity <= Settings::CAPACITY_MOST
+}
+
+// What the check carries from command to command: whether *RST has begun the script, the settings, which every course
+// shares, and the moving parts of two courses: low has no events, high has at each gap the highest frequency that can
+// be measured and then a trigger.
 pub struct Both {
     pub begun: bool,
     pub settings: Settings,
@@ -20,6 +49,7 @@ pub struct Both {
     pub high: Moving,
 }
 
+// Whether a command is *RST.
 fn resets(kind: Kind) -> bool
     ensures { λ r. ⌜ r ≡ resets kind ⌝ }
 {
@@ -52,6 +82,7 @@ fn measured_high(s: Settings, m: Moving) -> Moving
     t
 }
 
+// The moving part once a trigger has come.
 fn triggered_high(capacity: u32, s: Settings, m: Moving) -> Moving
     ensures { λ r. ⌜ r ≡ triggeredHigh capacity s m ⌝ }
 {
@@ -63,8 +94,8 @@ fn triggered_high(capacity: u32, s: Settings, m: Moving) -> Moving
 }
 
 // What can happen before a line.
-pub fn gap(capacity: u32, b: Both) -> Both
-    ensures { λ r. ⌜ r ≡ gapOf capacity b ⌝ }
+pub fn gap(model: Model, b: Both) -> Both
+    ensures { λ r. ⌜ r ≡ gapOf model b ⌝ }
 {
     let settings = b.settings;
     let low = b.low;
@@ -73,10 +104,11 @@ pub fn gap(capacity: u32, b: Both) -> Both
         begun: b.begun,
         settings,
         low,
-        high: triggered_high(capacity, settings, measured_high(settings, high)),
+        high: triggered_high(model.capacity, settings, measured_high(settings, high)),
     }
 }
 
+// The refusal of a command of the language: 7 before *RST, 3 where one of the two courses refuses it.
 fn kind_refusal(kind: Kind, b: Both) -> Outcome
     ensures { λ r. ⌜ r ≡ kindRefusal kind b ⌝ }
 {
@@ -108,7 +140,7 @@ fn early(begun: bool, refusal: Refusal) -> Outcome
     Outcome::Refused(Refusal::NoReset)
 }
 
-// The refusal of a command that is not empty: 7 before *RST, 1 and 2 by its text, 3 where one of the two courses refuses it.
+// The refusal of a command as it is read: 7 before *RST, 1 and 2 by its text, 3 where one of the two refuses it.
 pub fn text_refusal(p: Parsed, b: Both) -> Outcome
     ensures { λ r. ⌜ r ≡ textRefusal p b ⌝ }
 {
@@ -122,6 +154,7 @@ pub fn text_refusal(p: Parsed, b: Both) -> Outcome
     }
 }
 
+// Whether *RST has begun the script, past a command.
 fn begun_after(begun: bool, kind: Kind) -> bool
     ensures { λ r. ⌜ r ≡ begunAfter begun kind ⌝ }
 {
@@ -131,8 +164,9 @@ fn begun_after(begun: bool, kind: Kind) -> bool
     resets(kind)
 }
 
-fn kind_after(capacity: u32, kind: Kind, b: Both) -> Both
-    ensures { λ r. ⌜ r ≡ kindAfter capacity kind b ⌝ }
+// What is carried past a command of the language that no course refuses.
+fn kind_after(model: Model, kind: Kind, b: Both) -> Both
+    ensures { λ r. ⌜ r ≡ kindAfter model kind b ⌝ }
 {
     let settings = b.settings;
     let low = b.low;
@@ -140,21 +174,21 @@ fn kind_after(capacity: u32, kind: Kind, b: Both) -> Both
     Both {
         begun: begun_after(b.begun, kind),
         settings: change::settings_after(settings, kind),
-        low: change::moving_after(settings, low, capacity, kind),
-        high: change::moving_after(settings, high, capacity, kind),
+        low: change::moving_after(settings, low, model.capacity, kind),
+        high: change::moving_after(settings, high, model.capacity, kind),
     }
 }
 
 // What is carried past a command that is not refused.
-pub fn text_after(capacity: u32, p: Parsed, b: Both) -> Both
-    ensures { λ r. ⌜ r ≡ textAfter capacity p b ⌝ }
+pub fn text_after(model: Model, p: Parsed, b: Both) -> Both
+    ensures { λ r. ⌜ r ≡ textAfter model p b ⌝ }
 {
     match p {
         Parsed::Empty => b,
         Parsed::Refused(_) => b,
         Parsed::Taken(c) => {
             let kind = c.kind;
-            kind_after(capacity, kind, b)
+            kind_after(model, kind, b)
         }
     }
 }

@@ -8,64 +8,41 @@ use Rattle.script.proofs.check_lines.Statement.{statement}
 use Rattle.script.proofs.check_lines.Tie as tie
 
 abbrev Inv-loop : tie.InvT-loop
-Inv-loop capacity script both₀ line₀ a₀ both line a = Left capacity script both line a
+Inv-loop model script both₀ line₀ a₀ both line a = Left model script both line a
 
 abbrev μ-loop : tie.MeasureT-loop
-μ-loop capacity script both₀ line₀ a₀ both line a = length script + 1 - a
-
-start-both-requires : tie.Need-start-both-requires Inv-loop μ-loop
-start-both-requires c κs = search needs
-
-loop-holds : tie.Need-loop-holds Inv-loop μ-loop
-loop-holds c = rw (c .start-both .ensures) (at-start _ _)
-
-end-of-requires : tie.Need-end-of-requires Inv-loop μ-loop
-end-of-requires c κs = omega arith
-
-sub-if1 : tie.Need-sub-if1 Inv-loop μ-loop
-sub-if1 c = omega arith
+μ-loop model script both₀ line₀ a₀ both line a = length script + 1 - a
 
 returns : tie.Need-returns Inv-loop μ-loop
-returns c = too-long (c .before .before .before .loop .inv) (c .before .before .loop-test .taken) (c .before .end-of .result) (c .before .end-of .ensures .0) (c .if1 .taken)
-
-sub-sweep-line : tie.Need-sub-sweep-line Inv-loop μ-loop
-sub-sweep-line c = omega arith
-
-part-sweep-line-start : tie.Need-part-sweep-line-start Inv-loop μ-loop
-part-sweep-line-start c = omega arith
-
-part-sweep-line-end : tie.Need-part-sweep-line-end Inv-loop μ-loop
-part-sweep-line-end c = omega arith
+returns c =
+    let ended = c .before in
+    let turn = ended .before .before in
+    too-long (turn .loop .inv) (ended .before .loop-test .taken) (ended .end-of .result) (ended .end-of .ensures .0)
+    (c .if1 .taken)
 
 sweep-line-requires : tie.Need-sweep-line-requires Inv-loop μ-loop
-sweep-line-requires c κs = omega (arith, part-length (c .before .before .before .before .before .before .before .args .script .now) (c .before .before .before .before .loop .a) (c .before .before .end-of .result))
-
-enum-known-answer : tie.Need-enum-known-answer Inv-loop μ-loop
-enum-known-answer c = search needs
+sweep-line-requires c κs =
+    let ended = c .before .before in
+    let turn = ended .before .before in
+    omega (arith, part-length (turn .before .before .before .args .script .now) (turn .loop .a) (ended .end-of .result))
 
 returns-2 : tie.Need-returns-2 Inv-loop μ-loop
-returns-2 c = named (c .before .before .before .before .before .before .before .before .loop .inv) (c .before .before .before .before .before .before .before .loop-test .taken) (c .before .before .before .before .before .before .end-of .result) (c .before .before .before .before .before .before .end-of .ensures .0) (c .before .before .before .before .before .if1 .left) (c .before .before .before .sweep-line .result) (c .before .before .before .sweep-line .ensures) _ _ (c .before .answer .given .1)
-
-enum-told : tie.Need-enum-told Inv-loop μ-loop
-enum-told c = search needs
-
-add-line : tie.Need-add-line Inv-loop μ-loop
-add-line c = omega arith
-
-add-a : tie.Need-add-a Inv-loop μ-loop
-add-a c = omega arith
-
-loop-less : tie.Need-loop-less Inv-loop μ-loop
-loop-less c = omega arith
+returns-2 c =
+    let swept = c .before .before .before in
+    let ended = swept .before .before .before in
+    let turn = ended .before .before in
+    named (turn .loop .inv) (ended .before .loop-test .taken) (ended .end-of .result) (ended .end-of .ensures .0)
+    (swept .before .before .if1 .left) (swept .sweep-line .result) (swept .sweep-line .ensures) _ _
+    (c .before .answer .given .1)
 
 loop-again : tie.Need-loop-again Inv-loop μ-loop
-loop-again c = onward (c .before .before .before .before .before .before .before .before .loop .inv) (c .before .before .before .before .before .before .before .loop-test .taken) (c .before .before .before .before .before .before .end-of .result) (c .before .before .before .before .before .before .end-of .ensures .0) (c .before .before .before .before .before .if1 .left) (c .before .before .before .sweep-line .result) (c .before .before .before .sweep-line .ensures) (c .before .enum-told .given .1) (omega arith)
-
-returns-3 : tie.Need-returns-3 Inv-loop μ-loop
-returns-3 c = over-yes (c .before .before .loop .inv) (c .before .loop-test .left) (c .if2 .taken)
-
-returns-4 : tie.Need-returns-4 Inv-loop μ-loop
-returns-4 c = over-no (c .before .before .loop .inv) (c .before .loop-test .left) (c .if2 .left)
+loop-again c =
+    let swept = c .before .before .before in
+    let ended = swept .before .before .before in
+    let turn = ended .before .before in
+    onward (turn .loop .inv) (ended .before .loop-test .taken) (ended .end-of .result) (ended .end-of .ensures .0)
+    (swept .before .before .if1 .left) (swept .sweep-line .result) (swept .sweep-line .ensures)
+    (c .before .enum-told .given .1) (omega arith)
 
 pub check-lines-spec : {M : Type 1} → statement M
 check-lines-spec =
@@ -73,21 +50,21 @@ check-lines-spec =
     (tie.spec
     Inv-loop
     μ-loop
-    start-both-requires
-    loop-holds
-    end-of-requires
-    sub-if1
+    (λ c κs. search needs)
+    (λ c. rw (c .start-both .ensures) (at-start _ _))
+    (λ c κs. omega arith)
+    (λ c. omega arith)
     returns
-    sub-sweep-line
-    part-sweep-line-start
-    part-sweep-line-end
+    (λ c. omega arith)
+    (λ c. omega arith)
+    (λ c. omega arith)
     sweep-line-requires
-    enum-known-answer
+    (λ c. search needs)
     returns-2
-    enum-told
-    add-line
-    add-a
-    loop-less
+    (λ c. search needs)
+    (λ c. omega arith)
+    (λ c. omega arith)
+    (λ c. omega arith)
     loop-again
-    returns-3
-    returns-4)
+    (λ c. over-yes (c .before .before .loop .inv) (c .before .loop-test .left) (c .if2 .taken))
+    (λ c. over-no (c .before .before .loop .inv) (c .before .loop-test .left) (c .if2 .left)))

@@ -9,58 +9,39 @@ use Rattle.script.proofs.sweep.Statement.{statement}
 use Rattle.script.proofs.sweep.Tie as tie
 
 abbrev Inv-loop : tie.InvT-loop
-Inv-loop capacity text both₀ place₀ a₀ both place a = OnWay capacity text both₀ both place a
+Inv-loop model text both₀ place₀ a₀ both place a = OnWay model text both₀ both place a
 
 abbrev μ-loop : tie.MeasureT-loop
-μ-loop capacity text both₀ place₀ a₀ both place a = length text + 1 - a
-
-loop-holds : tie.Need-loop-holds Inv-loop μ-loop
-loop-holds c = record { inside = omega arith; told = refl; past = refl; counted = omega arith }
-
-end-of-requires : tie.Need-end-of-requires Inv-loop μ-loop
-end-of-requires c κs = omega arith
-
-sub-parse : tie.Need-sub-parse Inv-loop μ-loop
-sub-parse c = omega arith
-
-part-parse-start : tie.Need-part-parse-start Inv-loop μ-loop
-part-parse-start c = omega arith
-
-part-parse-end : tie.Need-part-parse-end Inv-loop μ-loop
-part-parse-end c = omega arith
-
-parse-requires : tie.Need-parse-requires Inv-loop μ-loop
-parse-requires c κs = search needs
-
-text-refusal-requires : tie.Need-text-refusal-requires Inv-loop μ-loop
-text-refusal-requires c κs = search needs
-
-enum-known-outcome : tie.Need-enum-known-outcome Inv-loop μ-loop
-enum-known-outcome c = search needs
+μ-loop model text both₀ place₀ a₀ both place a = length text + 1 - a
 
 returns : tie.Need-returns Inv-loop μ-loop
-returns c = refused (c .before .before .before .before .before .before .before .loop .inv) (c .before .before .before .before .before .before .end-of .result) (c .before .before .before .before .before .before .end-of .ensures .0) (c .before .before .before .before .parse .result) (c .before .before .before .before .parse .ensures) _ _ (sym (c .before .before .before .text-refusal .ensures) ∙ c .before .outcome .given .1)
-
-enum-told : tie.Need-enum-told Inv-loop μ-loop
-enum-told c = search needs
-
-text-after-requires : tie.Need-text-after-requires Inv-loop μ-loop
-text-after-requires c κs = search needs
+returns c =
+    let asked = c .before .before .before in
+    let read = asked .before in
+    let found = read .before .before in
+    refused (found .before .loop .inv) (found .end-of .result) (found .end-of .ensures .0)
+    (read .parse .result) (read .parse .ensures) _ _ (sym (asked .text-refusal .ensures) ∙ c .before .outcome .given .1)
 
 returns-2 : tie.Need-returns-2 Inv-loop μ-loop
-returns-2 c = rw (c .before .text-after .ensures) (ended (c .before .before .before .before .before .before .before .before .loop .inv) (c .before .before .before .before .before .before .before .end-of .result) (c .before .before .before .before .before .before .before .end-of .ensures .0) (c .before .before .before .before .before .parse .result) (c .before .before .before .before .before .parse .ensures) (sym (c .before .before .before .before .text-refusal .ensures) ∙ c .before .before .enum-told .given .1) (c .if1 .taken))
-
-add-place : tie.Need-add-place Inv-loop μ-loop
-add-place c = omega arith
-
-add-a : tie.Need-add-a Inv-loop μ-loop
-add-a c = omega arith
-
-loop-less : tie.Need-loop-less Inv-loop μ-loop
-loop-less c = omega arith
+returns-2 c =
+    let asked = c .before .before .before .before in
+    let read = asked .before in
+    let found = read .before .before in
+    rw (c .before .text-after .ensures)
+    (ended (found .before .loop .inv) (found .end-of .result) (found .end-of .ensures .0)
+    (read .parse .result) (read .parse .ensures)
+    (sym (asked .text-refusal .ensures) ∙ c .before .before .enum-told .given .1) (c .if1 .taken))
 
 loop-again : tie.Need-loop-again Inv-loop μ-loop
-loop-again c = let l : c .before .before .before .before .before .before .before .end-of .result < length (c .before .before .before .before .before .before .before .before .before .before .args .text .now) = omega arith in rw (c .before .text-after .ensures) (again (c .before .before .before .before .before .before .before .before .loop .inv) (c .before .before .before .before .before .before .before .end-of .result) (c .before .before .before .before .before .before .before .end-of .ensures .0) (c .before .before .before .before .before .parse .result) (c .before .before .before .before .before .parse .ensures) (sym (c .before .before .before .before .text-refusal .ensures) ∙ c .before .before .enum-told .given .1) l)
+loop-again c =
+    let asked = c .before .before .before .before in
+    let read = asked .before in
+    let found = read .before .before in
+    let turn = found .before in
+    let l : found .end-of .result < length (turn .before .before .args .text .now) = omega arith in
+    rw (c .before .text-after .ensures) (again (turn .loop .inv) (found .end-of .result) (found .end-of .ensures .0)
+    (read .parse .result) (read .parse .ensures)
+    (sym (asked .text-refusal .ensures) ∙ c .before .before .enum-told .given .1) l)
 
 pub sweep-spec : {M : Type 1} → statement M
 sweep-spec =
@@ -68,19 +49,16 @@ sweep-spec =
     (tie.spec
     Inv-loop
     μ-loop
-    loop-holds
-    end-of-requires
-    sub-parse
-    part-parse-start
-    part-parse-end
-    parse-requires
-    text-refusal-requires
-    enum-known-outcome
+    (λ c. record { inside = omega arith; told = refl; past = refl; counted = omega arith })
+    (λ c κs. omega arith)
+    (λ c. omega arith)
+    (λ c. omega arith)
+    (λ c. omega arith)
+    (λ c κs. search needs)
+    (λ c κs. search needs)
+    (λ c. search needs)
     returns
-    enum-told
-    text-after-requires
-    returns-2
-    add-place
-    add-a
-    loop-less
-    loop-again)
+    (λ c. search needs)
+    (λ c κs. search needs)
+    returns-2 (λ c. omega arith)
+    (λ c. omega arith) (λ c. omega arith) loop-again)

@@ -8,35 +8,32 @@ use Rattle.clean.proofs.Bound.{all-cleaned}
 use Rattle.script.proofs.sweep_line.Statement.{statement}
 use Rattle.script.proofs.sweep_line.Tie as tie
 
-clean-requires : tie.Need-clean-requires
-clean-requires c κs = search needs
-
-gap-requires : tie.Need-gap-requires
-gap-requires c κs = search needs
-
-sub-sweep : tie.Need-sub-sweep
-sub-sweep c = search needs
-
-part-sweep-start : tie.Need-part-sweep-start
-part-sweep-start c = search needs
-
 part-sweep-end : tie.Need-part-sweep-end
-part-sweep-end c = let h : length (c .before .before .before .clean .result .bytes) ≡ 256 = search needs in omega (arith, c .before .before .before .clean .ensures .1)
-
-sweep-requires : tie.Need-sweep-requires
-sweep-requires c κs = search needs
+part-sweep-end c =
+    let cleaned = c .before .before .before .clean in
+    let h : length (cleaned .result .bytes) ≡ 256 = search needs in
+    omega (arith, cleaned .ensures .1)
 
 returns : tie.Need-returns
-returns c = rw (sym (c .before .before .before .gap .ensures), sym (all-cleaned (c .before .before .before .before .before .before .before .args .line .now) (c .before .before .before .before .before .before .before .pre)), sym (c .before .before .before .before .before .clean .ensures .0)) (rw (sub-zero (c .before .before .before .before .before .clean .result .len)) at (c .sweep .ensures))
+returns c =
+    let gap = c .before .before .before in
+    let cleaned = gap .before .before in
+    let call = cleaned .before .before in
+    rw (
+      sym (gap .gap .ensures),
+      sym (all-cleaned (call .args .line .now) (call .pre)),
+      sym (cleaned .clean .ensures .0),
+    )
+    (rw (sub-zero (cleaned .clean .result .len)) at (c .sweep .ensures))
 
 pub sweep-line-spec : {M : Type 1} → statement M
 sweep-line-spec =
     tie.close
     (tie.spec
-    clean-requires
-    gap-requires
-    sub-sweep
-    part-sweep-start
+    (λ c κs. search needs)
+    (λ c κs. search needs)
+    (λ c. search needs)
+    (λ c. search needs)
     part-sweep-end
-    sweep-requires
+    (λ c κs. search needs)
     returns)

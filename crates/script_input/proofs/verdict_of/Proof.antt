@@ -9,28 +9,29 @@ use Rattle.script_input.specs.Input.{limitedCheck}
 use Rattle.script_input.proofs.verdict_of.Statement.{statement}
 use Rattle.script_input.proofs.verdict_of.Tie as tie
 
-check-requires : tie.Need-check-requires
-check-requires c κs = search needs
-
 returns : tie.Need-returns
 unfolding limitedCheck
 returns c =
-    rw (le-ltb 60000 (length (c .before .before .before .args .script .now)) (omega arith)) (c .check .ensures .0)
+    let told = c .before .before in
+    rw (le-ltb 60000 (length (told .before .before .args .script .now)) (omega arith), sym (told .of-capacity .ensures))
+    (c .check .ensures .0)
 
-capacity-fits-requires : tie.Need-capacity-fits-requires
-capacity-fits-requires c κs = search needs
-
+-- a script of more than the limit
 returns-2 : tie.Need-returns-2
 unfolding limitedCheck
 returns-2 c =
-    let a = c .before .before .before .before .args in
-    rw (lt-ltb 60000 (length (a .script .now)) (omega arith), sym (c .before .capacity-fits .ensures) ∙ c .if2 .taken)
+    let told = c .before .before .before in
+    let fits = rw (told .of-capacity .ensures) at (sym (c .before .model-fits .ensures) ∙ c .if2 .taken) in
+    rw (lt-ltb 60000 (length (told .before .before .args .script .now)) (omega arith), fits)
 
 returns-3 : tie.Need-returns-3
 unfolding limitedCheck checkOf
 returns-3 c =
-    let a = c .before .before .before .before .args in
-    rw (lt-ltb 60000 (length (a .script .now)) (omega arith), sym (c .before .capacity-fits .ensures) ∙ c .if2 .left)
+    let told = c .before .before .before in
+    let fits = rw (told .of-capacity .ensures) at (sym (c .before .model-fits .ensures) ∙ c .if2 .left) in
+    rw (lt-ltb 60000 (length (told .before .before .args .script .now)) (omega arith), fits)
 
 pub verdict-of-spec : {M : Type 1} → statement M
-verdict-of-spec = tie.close (tie.spec check-requires returns capacity-fits-requires returns-2 returns-3)
+verdict-of-spec =
+    tie.close
+    (tie.spec (λ c κs. search needs) (λ c κs. search needs) returns (λ c κs. search needs) returns-2 returns-3)
