@@ -12,7 +12,7 @@ use Rattle.refusal.specs.Meaning.{meaningOf}
 use Rattle.refusal.specs.declared.Refusal.{Refusal}
 use Rattle.refusal.specs.declared.Refusal.the-variants.{Malformed, OutOfRange, NotAllowed, NoRoom, LongLine, BadEvent, NoReset, LongScriptLine, BadTraces, BadStart, BadState}
 use Rattle.settings.specs.Table.{oflt, fmod, freq, harm, send, behind, valueOf, withValue, startSettings}
-use Rattle.settings.specs.Frequency.{inForce, detectionOf, withinLimit, timeConstantStands}
+use Rattle.settings.specs.Frequency.{isInternal, inForce, detectionOf, withinLimit, timeConstantStands}
 use Rattle.settings.specs.Allowed.{keeps, keepsAll}
 use Rattle.settings.specs.declared.Settings.{Settings}
 use Rattle.settings.proofs.Kept.{with-keeps}
@@ -105,12 +105,12 @@ module _ (old : ℕ) (s : Settings) (m : Moving) (capacity : ℕ) (h : Holds old
       refl refl refl
     where
       by : (a b c rest : Bool) → eqb e freq ≡ a → eqb e harm ≡ b → eqb e fmod ≡ c
-          → cond a (eqb (valueOf s fmod) 1 && withinLimit (detectionOf (withValue s e v) (m .external)))
+          → cond a (isInternal s && withinLimit (detectionOf (withValue s e v) (m .external)))
           (cond b (withinLimit (detectionOf (withValue s e v) (m .external)))
           (cond c (withinLimit (detectionOf (withValue s e v) (m .external))) rest)) ≡ true
           → withinLimit (detectionOf (withValue s e v) (m .external)) ≡ true
       by true b c rest f g i p =
-          and-eq-true-iff (eqb (valueOf s fmod) 1) (withinLimit (detectionOf (withValue s e v) (m .external))) .0 p .1
+          and-eq-true-iff (isInternal s) (withinLimit (detectionOf (withValue s e v) (m .external))) .0 p .1
       by false true c rest f g i p = p
       by false false true rest f g i p = p
       by false false false rest f g i p =

@@ -6,13 +6,13 @@ use mathlib.Core.List.{List, [], _∷_}
 use native.Mathlib.Omega.{arith}
 use lib.Dec.{leb, ltb, eqb}
 use lib.ListN.{length}
-use borrow.Author.Tests.{ltb-true, leb-true, eqb-true, ne-eqb}
+use borrow.Author.Tests.{ltb-true, leb-true, eqb-true}
 use Rattle.number.proofs.Exact.{and-first, and-second}
 use Rattle.name.specs.Names.{Named, commands, sameBytes, meaningIn, meaningOf}
 use Rattle.name.specs.declared.Register.{Register}
 use Rattle.name.specs.declared.Meaning.{Meaning}
 use Rattle.name.specs.declared.Meaning.the-variants.{Setting, Channel, ChannelPair, Enable, Status, Identity, Points, Trace, Act, Unknown}
-use Rattle.settings.specs.Table.{table, rowOf, entries, freq, oflt}
+use Rattle.settings.specs.Table.{table, rowOf, entries, oflt}
 use Rattle.settings.specs.Setting.{stepOf}
 use Rattle.settings.specs.Allowed.{every, keeps}
 use Rattle.settings.proofs.Every.{every-at}
@@ -42,9 +42,21 @@ rule-in p (n ∷ ns) t s u = by (sameBytes (n .name) s) refl (rule-in p ns (and-
 pub name-rule : (p : List ℕ → Meaning → Bool) → allNamed p commands ≡ true → (s : List ℕ) → p s Unknown ≡ true → p s (meaningOf s) ≡ true
 name-rule p = rule-in p commands
 
+-- a flag as a number
+abbrev flag : Bool → ℕ
+flag t = cond t 1 0
+
 -- two entries that keep and write a value alike: past FREQ and OFLT, and these cells of their rows are the same
 abbrev cells : ℕ → List ℕ
-cells e = rowOf e .bias ∷ rowOf e .decimals ∷ rowOf e .least ∷ rowOf e .most ∷ rowOf e .step ∷ []
+cells e =
+    rowOf e .bias ∷ rowOf e .decimals ∷ rowOf e .least ∷ rowOf e .most ∷ rowOf e .step ∷ flag (rowOf e .scales) ∷ []
+
+-- a flag is known by its number
+same-flag : (a b : Bool) → flag a ≡ flag b → a ≡ b
+same-flag true true e = refl
+same-flag false false e = refl
+same-flag true false e = absurd (omega arith)
+same-flag false true e = absurd (omega arith)
 
 pub record Alike (e f : ℕ) : Type 0 where
   pub inside : e < entries
@@ -67,9 +79,8 @@ module _ {e f : ℕ} (a : Alike e f) (v : ℕ) where
       let l : rowOf e .least ≡ rowOf f .least = cc in
       let m : rowOf e .most ≡ rowOf f .most = cc in
       let s : rowOf e .step ≡ rowOf f .step = cc in
-      let x = a .past in
-      let y = a .second in
-      rw (l, m, s, ne-eqb e freq (λ z. omega arith), ne-eqb f freq (λ z. omega arith))
+      let t : flag (rowOf e .scales) ≡ flag (rowOf f .scales) = cc in
+      rw (l, m, s, same-flag (rowOf e .scales) (rowOf f .scales) t)
 
 -- what a setting's name needs: four bytes of a command, and entries of the table, alike for every channel
 abbrev isName : List ℕ → Bool

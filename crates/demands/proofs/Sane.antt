@@ -13,7 +13,7 @@ use Rattle.number.specs.Value.{exactOf}
 use Rattle.number.specs.declared.Argument.{Argument}
 use Rattle.number.specs.declared.Argument.the-variants as argument
 use Rattle.number.proofs.Exact.{under-pos}
-use Rattle.settings.specs.Table.{entries, freq, rowOf, table, behind}
+use Rattle.settings.specs.Table.{entries, rowOf, table, behind}
 use Rattle.settings.specs.Setting.{settingOf, stepOf}
 use Rattle.settings.specs.Allowed.{keeps, every}
 use Rattle.settings.proofs.Every.{every-at}
@@ -73,7 +73,7 @@ SaneParsed (Refused r) = meaningOf r .number ≤ 2
 -- an entry keeps what the other one does
 abbrev alike : ℕ → ℕ → Bool
 alike a b =
-    (not (eqb a freq) && not (eqb b freq))
+    (not (rowOf a .scales) && not (rowOf b .scales))
     && (eqb (rowOf a .least) (rowOf b .least) && (eqb (rowOf a .most) (rowOf b .most) && eqb (rowOf a .step) (rowOf b .step)))
 
 alike-keeps : (a b x : ℕ) → alike a b ≡ true → keeps a x ≡ true → keeps b x ≡ true
@@ -86,7 +86,7 @@ alike-keeps a b x h k =
     let least = eqb-true (rowOf a .least) (rowOf b .least) (same .0) in
     let most = eqb-true (rowOf a .most) (rowOf b .most) (ends .0) in
     let step = eqb-true (rowOf a .step) (rowOf b .step) (ends .1) in
-    rw (not-true (eqb b freq) (apart .1), ← least, ← most, ← step) (rw (not-true (eqb a freq) (apart .0)) at k)
+    rw (not-true (rowOf b .scales) (apart .1), ← least, ← most, ← step) (rw (not-true (rowOf a .scales) (apart .0)) at k)
 
 -- both entries of a pair's channel keep what those of the first one do
 abbrev alikePair : ℕ → ℕ → Bool

@@ -10,26 +10,40 @@ use Rattle.name.specs.Names.{Named, commands, sameBytes, meaningIn}
 use Rattle.name.specs.Parts.{word, foundIn}
 use Rattle.name.specs.Words.{isFour, FoundWord}
 
+-- every name of a list is of four bytes
 abbrev allFour : List Named → Bool
 allFour [] = true
 allFour (n ∷ ns) = isFour (n .name) && allFour ns
 
-module _ (a b c d e f g h : ℕ) (ha : a < 256) (hb : b < 256) (hc : c < 256) (hd : d < 256) (he : e < 256) (hf : f < 256) (hg : g < 256) (hh : h < 256) where
-  same-word : eqb (word (a ∷ b ∷ c ∷ d ∷ [])) (word (e ∷ f ∷ g ∷ h ∷ [])) ≡ sameBytes (a ∷ b ∷ c ∷ d ∷ []) (e ∷ f ∷ g ∷ h ∷ [])
+-- four bytes against four bytes
+module _ (a b c d e f g h : ℕ) (ha : a < 256) (hb : b < 256) (hc : c < 256) (hd : d < 256)
+    (he : e < 256) (hf : f < 256) (hg : g < 256) (hh : h < 256) where
+  -- the first four as a number
+  abbrev one : ℕ
+  one = word (a ∷ b ∷ c ∷ d ∷ [])
+
+  -- the second four as a number
+  abbrev two : ℕ
+  two = word (e ∷ f ∷ g ∷ h ∷ [])
+
+  -- the numbers are the same where the bytes are
+  same-word : eqb one two ≡ sameBytes (a ∷ b ∷ c ∷ d ∷ []) (e ∷ f ∷ g ∷ h ∷ [])
   same-word = by (eqb a e) (eqb b f) (eqb c g) (eqb d h) refl refl refl refl where
     by : (p q r s : Bool) → eqb a e ≡ p → eqb b f ≡ q → eqb c g ≡ r → eqb d h ≡ s →
-        eqb (word (a ∷ b ∷ c ∷ d ∷ [])) (word (e ∷ f ∷ g ∷ h ∷ [])) ≡ (p && (q && (r && (s && true))))
+        eqb one two ≡ (p && (q && (r && (s && true))))
     by true true true true i j k l =
-        eq-eqb (word (a ∷ b ∷ c ∷ d ∷ [])) (word (e ∷ f ∷ g ∷ h ∷ [])) (omega (arith, eqb-true a e i, eqb-true b f j, eqb-true c g k, eqb-true d h l))
-    by true true true false i j k l = ne-eqb (word (a ∷ b ∷ c ∷ d ∷ [])) (word (e ∷ f ∷ g ∷ h ∷ [])) (λ z. eqb-false d h l (omega arith))
-    by true true false s i j k l = ne-eqb (word (a ∷ b ∷ c ∷ d ∷ [])) (word (e ∷ f ∷ g ∷ h ∷ [])) (λ z. eqb-false c g k (omega arith))
-    by true false r s i j k l = ne-eqb (word (a ∷ b ∷ c ∷ d ∷ [])) (word (e ∷ f ∷ g ∷ h ∷ [])) (λ z. eqb-false b f j (omega arith))
-    by false q r s i j k l = ne-eqb (word (a ∷ b ∷ c ∷ d ∷ [])) (word (e ∷ f ∷ g ∷ h ∷ [])) (λ z. eqb-false a e i (omega arith))
+        eq-eqb one two (omega (arith, eqb-true a e i, eqb-true b f j, eqb-true c g k, eqb-true d h l))
+    by true true true false i j k l = ne-eqb one two (λ z. eqb-false d h l (omega arith))
+    by true true false s i j k l = ne-eqb one two (λ z. eqb-false c g k (omega arith))
+    by true false r s i j k l = ne-eqb one two (λ z. eqb-false b f j (omega arith))
+    by false q r s i j k l = ne-eqb one two (λ z. eqb-false a e i (omega arith))
 
+-- two tests that hold together
 both-true : (a b : Bool) → T (a && b) → T a × T b
 both-true true b t = (tt, t)
 both-true false b t = absurd t
 
+-- the same of lists of four bytes
 same-four : (s t : List ℕ) → T (isFour s) → T (isFour t) → eqb (word s) (word t) ≡ sameBytes s t
 same-four (a ∷ b ∷ c ∷ d ∷ []) (e ∷ f ∷ g ∷ h ∷ []) p q =
     let p1 = both-true (ltb a 256) _ p in
@@ -38,9 +52,11 @@ same-four (a ∷ b ∷ c ∷ d ∷ []) (e ∷ f ∷ g ∷ h ∷ []) p q =
     let q1 = both-true (ltb e 256) _ q in
     let q2 = both-true (ltb f 256) _ (q1 .1) in
     let q3 = both-true (ltb g 256) _ (q2 .1) in
-    same-word a b c d e f g h (ltb→lt a 256 (p1 .0)) (ltb→lt b 256 (p2 .0)) (ltb→lt c 256 (p3 .0)) (ltb→lt d 256 (p3 .1))
+    same-word a b c d e f g h
+    (ltb→lt a 256 (p1 .0)) (ltb→lt b 256 (p2 .0)) (ltb→lt c 256 (p3 .0)) (ltb→lt d 256 (p3 .1))
     (ltb→lt e 256 (q1 .0)) (ltb→lt f 256 (q2 .0)) (ltb→lt g 256 (q3 .0)) (ltb→lt h 256 (q3 .1))
 
+-- and of a whole list of names
 found-is : (ns : List Named) → T (allFour ns) → (s : List ℕ) → T (isFour s) → foundIn ns (word s) ≡ meaningIn ns s
 unfolding foundIn meaningIn
 found-is [] t s f = refl

@@ -1,24 +1,30 @@
 -- `allow::value_allowed` meets its contract. Assumes nothing.
 use borrow.Author.Tests.{eq-eqb, ne-eqb}
-use mathlib.Core.Path.{sym}
+use mathlib.Core.Path.{sym, _∙_}
 use borrow.Author.Needs.{needs}
 use Rattle.allow.specs.Allows.{valueAllowed}
 use Rattle.allow.proofs.value_allowed.Statement.{statement}
 use Rattle.allow.proofs.value_allowed.Tie as tie
 
-value-of-requires : tie.Need-value-of-requires
-value-of-requires c κs = search needs
+is-internal-requires : tie.Need-is-internal-requires
+is-internal-requires c κs = search needs
 
 keeps-limit-requires : tie.Need-keeps-limit-requires
 keeps-limit-requires c κs = search needs
 
 returns : tie.Need-returns
 unfolding valueAllowed
-returns c = simp (c .keeps-limit .ensures, sym (c .before .before .value-of .ensures), eq-eqb _ _ (c .before .if2 .taken), eq-eqb _ _ (c .before .before .before .if1 .taken))
+returns c =
+    simp (
+      c .keeps-limit .ensures,
+      sym (c .before .before .is-internal .ensures) ∙ c .before .if2 .taken,
+      eq-eqb _ _ (c .before .before .before .if1 .taken),
+    )
 
 returns-2 : tie.Need-returns-2
 unfolding valueAllowed
-returns-2 c = simp (sym (c .before .value-of .ensures), ne-eqb _ _ (c .if2 .left), eq-eqb _ _ (c .before .before .if1 .taken))
+returns-2 c =
+    simp (sym (c .before .is-internal .ensures) ∙ c .if2 .left, eq-eqb _ _ (c .before .before .if1 .taken))
 
 keeps-limit-requires-2 : tie.Need-keeps-limit-requires-2
 keeps-limit-requires-2 c κs = search needs
@@ -59,7 +65,7 @@ pub value-allowed-spec : {M : Type 1} → statement M
 value-allowed-spec =
     tie.close
     (tie.spec
-    value-of-requires
+    is-internal-requires
     keeps-limit-requires
     returns
     returns-2

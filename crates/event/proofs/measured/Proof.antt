@@ -1,17 +1,16 @@
 -- `event::measured` meets its contract. Assumes nothing.
 use Rattle.event.specs.Event.{measuredBy}
 use mathlib.Core.Path.{sym, _∙_}
-use borrow.Author.Tests.{eq-eqb, ne-eqb}
 use borrow.Author.Needs.{needs}
 use Rattle.event.proofs.measured.Statement.{statement}
 use Rattle.event.proofs.measured.Tie as tie
 
-value-of-requires : tie.Need-value-of-requires
-value-of-requires c κs = search needs
+is-internal-requires : tie.Need-is-internal-requires
+is-internal-requires c κs = search needs
 
 returns : tie.Need-returns
 unfolding measuredBy
-returns c = rw (← c .before .value-of .ensures, eq-eqb _ _ (c .if1 .taken))
+returns c = rw (sym (c .before .is-internal .ensures) ∙ c .if1 .taken)
 
 takes-frequency-requires : tie.Need-takes-frequency-requires
 takes-frequency-requires c κs = search needs
@@ -27,20 +26,35 @@ crossed-requires c κs = search needs
 
 returns-2 : tie.Need-returns-2
 unfolding measuredBy
-returns-2 c = simp (c .crossed .ensures, c .before .with-external .ensures, c .before .before .detection-now .ensures, sym (c .before .before .before .before .takes-frequency .ensures) ∙ c .before .before .before .if2 .taken, sym (c .before .before .before .before .before .before .value-of .ensures), ne-eqb _ _ (c .before .before .before .before .before .if1 .left))
+returns-2 c =
+    let taken = c .before .before .before in
+    let mode = taken .before .before in
+    simp (
+      c .crossed .ensures,
+      c .before .with-external .ensures,
+      c .before .before .detection-now .ensures,
+      sym (taken .before .takes-frequency .ensures) ∙ taken .if2 .taken,
+      sym (mode .before .is-internal .ensures) ∙ mode .if1 .left,
+    )
 
 with-lia-requires : tie.Need-with-lia-requires
 with-lia-requires c κs = search needs
 
 returns-3 : tie.Need-returns-3
 unfolding measuredBy
-returns-3 c = simp (c .with-lia .ensures, sym (c .before .before .takes-frequency .ensures) ∙ c .before .if2 .left, sym (c .before .before .before .before .value-of .ensures), ne-eqb _ _ (c .before .before .before .if1 .left))
+returns-3 c =
+    let mode = c .before .before .before in
+    simp (
+      c .with-lia .ensures,
+      sym (c .before .before .takes-frequency .ensures) ∙ c .before .if2 .left,
+      sym (mode .before .is-internal .ensures) ∙ mode .if1 .left,
+    )
 
 pub measured-spec : {M : Type 1} → statement M
 measured-spec =
     tie.close
     (tie.spec
-    value-of-requires
+    is-internal-requires
     returns
     takes-frequency-requires
     detection-now-requires

@@ -15,11 +15,12 @@ use Rattle.name.proofs.find.Tie as tie
 at : {m : Meaning} {w k : ℕ} → m ≡ foundOf k → w ≡ k → m ≡ foundOf w
 at meaning key = rw key meaning
 
--- what the last arm is told, after N: the number is none of the names'
+-- what holds in the last arm, beside N: the number is none of the names'
 abbrev Others : Type 0 → List Named → ℕ → Type 0
 Others N [] w = N
 Others N (n ∷ ns) w = Others (N × (w ≡ word (n .name) → ⊥)) ns w
 
+-- so that no name is found
 none : {N : Type 0} (ns : List Named) (w : ℕ) → Others N ns w → N × (foundIn ns w ≡ Unknown)
 unfolding foundIn
 none [] w others = (others, refl)

@@ -3,6 +3,7 @@ use mathlib.Core.Path.{_≡_, refl, sym}
 use mathlib.Core.Bool.{Bool, true, false, not, _&&_, _||_, true≢false}
 use lib.Dec.{ltb}
 use borrow.Author.Needs.{needs}
+use Rattle.settings.specs.Limits.{longestAbove}
 use Rattle.settings.specs.Frequency.{crossingOf}
 use Rattle.settings.proofs.crossing_of.Statement.{statement}
 use Rattle.settings.proofs.crossing_of.Tie as tie
@@ -27,18 +28,20 @@ unfolding crossingOf
 returns c =
     let was = c .before .before .above-200 in
     let is = c .before .above-2002 in
-    let long = ltb 13 (c .before .before .before .args .constant) in
+    let long = ltb longestAbove (c .before .before .before .args .constant) in
     simp (sym (was .ensures), sym (is .ensures), c .if1 .taken, crossed (was .result) (is .result) long (c .if1 .taken))
 
 returns-2 : tie.Need-returns-2
 unfolding crossingOf
 returns-2 c =
-    simp (sym (c .before .before .before .above-200 .ensures), sym (c .before .before .above-2002 .ensures), c .before .if1 .left, c .if2 .taken)
+    let is = c .before .before in
+    simp (sym (is .before .above-200 .ensures), sym (is .above-2002 .ensures), c .before .if1 .left, c .if2 .taken)
 
 returns-3 : tie.Need-returns-3
 unfolding crossingOf
 returns-3 c =
-    simp (sym (c .before .before .before .above-200 .ensures), sym (c .before .before .above-2002 .ensures), c .before .if1 .left, c .if2 .left)
+    let is = c .before .before in
+    simp (sym (is .before .above-200 .ensures), sym (is .above-2002 .ensures), c .before .if1 .left, c .if2 .left)
 
 pub crossing-of-spec : {M : Type 1} → statement M
 crossing-of-spec =

@@ -4,6 +4,7 @@ use mathlib.Core.Path.{_≡_, refl, _∙_}
 use native.Mathlib.Omega.{arith}
 use borrow.Author.Needs.{needs}
 use lib.ListN.{getD}
+use Rattle.settings.specs.Table.{entries}
 use Rattle.settings.specs.Allowed.{every}
 use Rattle.settings.proofs.Parts.{inRange, range-more}
 use Rattle.settings.proofs.in_ranges.Statement.{statement}
@@ -11,10 +12,10 @@ use Rattle.settings.proofs.in_ranges.Tie as tie
 
 abbrev Inv-loop : tie.InvT-loop
 Inv-loop values least most inside₀ entry₀ inside entry =
-    (entry ≤ 34) × (inside ≡ every (λ e. inRange e (getD values e 0)) entry)
+    (entry ≤ entries) × (inside ≡ every (λ e. inRange e (getD values e 0)) entry)
 
 abbrev μ-loop : tie.MeasureT-loop
-μ-loop values least most inside₀ entry₀ inside entry = 34 - entry
+μ-loop values least most inside₀ entry₀ inside entry = entries - entry
 
 leasts-requires : tie.Need-leasts-requires Inv-loop μ-loop
 leasts-requires c κs = search needs
@@ -61,7 +62,7 @@ loop-again c =
     )
 
 returns : tie.Need-returns Inv-loop μ-loop
-returns c = let e : c .before .loop .entry ≡ 34 = omega arith in c .before .loop .inv .1 ∙ rw e
+returns c = let e : c .before .loop .entry ≡ entries = omega arith in c .before .loop .inv .1 ∙ rw e
 
 pub in-ranges-spec : {M : Type 1} → statement M
 in-ranges-spec =

@@ -1,6 +1,5 @@
 -- `settings::turned_at` meets its contract. Assumes nothing.
 use borrow.Author.Needs.{needs}
-use borrow.Author.Tests.{eq-eqb, ne-eqb}
 use Rattle.settings.specs.Setting.{turnedAt}
 use Rattle.settings.proofs.turned_at.Statement.{statement}
 use Rattle.settings.proofs.turned_at.Tie as tie
@@ -20,11 +19,11 @@ turned-requires c κs = search needs
 
 returns-2 : tie.Need-returns-2
 unfolding turnedAt
-returns-2 c = rw (c .before .before .before .taken .given .1, eq-eqb _ _ (c .before .if1 .taken), c .turned .ensures)
+returns-2 c = rw (c .before .before .before .taken .given .1, c .before .if1 .taken, c .turned .ensures)
 
 returns-3 : tie.Need-returns-3
 unfolding turnedAt
-returns-3 c = rw (c .before .before .taken .given .1, ne-eqb _ _ (c .if1 .left))
+returns-3 c = rw (c .before .before .taken .given .1, c .if1 .left)
 
 pub turned-at-spec : {M : Type 1} → statement M
 turned-at-spec =
