@@ -145,6 +145,7 @@ record Plain (entry : ℕ) : Type 0 where
   least : rowOf entry .least ≡ rowOf entry .low
   most : rowOf entry .most ≡ rowOf entry .high
 
+-- which computes
 plain-at : (entry : ℕ) → rowOf entry .turns ≡ false → Plain entry
 unfolding table
 plain-at entry f =

@@ -15,6 +15,7 @@ use Rattle.number.proofs.Exact.{and-first, and-second}
 
 -- whole bounds of b + a / d bound b and the number nearest to a / d
 module _ (a d : ℕ) (pos : 0 < d) where
+  -- the number nearest to a / d stays below a bound
   pub nearest-le : (b h : ℕ) → b * d + a ≤ h * d → b + nearest a d ≤ h
   nearest-le b h p = by (leb d (2 * (a % d))) refl where
     sum : (b + a / d) * d + a % d ≡ b * d + a
@@ -28,6 +29,7 @@ module _ (a d : ℕ) (pos : 0 < d) where
         let l : (b + a / d) * d < (h + 1) * d = omega (arith, sum, add-mul h 1 d, one-mul d) in
         omega (arith, lt-of-mul-lt-mul-right d l)
 
+  -- and so from below
   pub nearest-ge : (b l : ℕ) → l * d ≤ b * d + a → l ≤ b + nearest a d
   nearest-ge b l p =
       let sum = add-mul (b + a / d) 1 d in
@@ -99,12 +101,15 @@ pub record Inside (r : Range) (x : ℕ) : Type 0 where
   pub step : x % r .step ≡ 0
 
 module _ (r : Range) (v : Exact) (pos : 0 < v .under) (al : Aligned r) where
+  -- the unit of rounding is not 0
   unit : 0 < v .under * r .step
   unit = mul-pos pos (al .step)
 
+  -- a number on the step
   on-step : (m : ℕ) → m % r .step ≡ 0 → m ≡ m / r .step * r .step
   on-step m h = omega (arith, div-add-mod' m (r .step))
 
+  -- and so in units of the step
   scaled : (m : ℕ) → m % r .step ≡ 0 → m * v .under ≡ m / r .step * (v .under * r .step)
   scaled m h =
       ap (λ k. k * v .under) (on-step m h) ∙ mul-assoc (m / r .step) (r .step) (v .under)

@@ -30,6 +30,7 @@ entries-counted = refl
 abbrev ordered : Row → Bool
 ordered r = leb (r .low) (r .least) && (leb (r .least) (r .most) && leb (r .most) (r .high))
 
+-- every row is so
 pub rows-ordered : every (λ entry. ordered (rowOf entry)) entries ≡ true
 unfolding table rowOf every
 rows-ordered = refl

@@ -14,15 +14,6 @@ crossed true is long e = absurd (true≢false (sym e))
 crossed false true long e = refl
 crossed false false long e = absurd (true≢false (sym e))
 
-above-200-requires : tie.Need-above-200-requires
-above-200-requires c κs = search needs
-
-above-200-requires-2 : tie.Need-above-200-requires-2
-above-200-requires-2 c κs = search needs
-
-add-t10 : tie.Need-add-t10
-add-t10 c = search needs
-
 returns : tie.Need-returns
 unfolding crossingOf
 returns c =
@@ -46,4 +37,4 @@ returns-3 c =
 pub crossing-of-spec : {M : Type 1} → statement M
 crossing-of-spec =
     tie.close
-    (tie.spec above-200-requires above-200-requires-2 add-t10 returns returns-2 returns-3)
+    (tie.spec (λ c κs. search needs) (λ c κs. search needs) (λ c. search needs) returns returns-2 returns-3)

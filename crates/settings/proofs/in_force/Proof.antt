@@ -9,8 +9,6 @@ pub in-force-spec : {M : Type 1} → statement M
 unfolding inForce
 in-force-spec =
     tie.close
-    (tie.spec
-    (λ c κs. search needs)
-    (λ c κs. search needs)
+    (tie.spec (λ c κs. search needs) (λ c κs. search needs)
     (λ c. rw (sym (c .before .before .is-internal .ensures) ∙ c .before .if1 .taken) (c .value-of .ensures))
     (λ c. rw (sym (c .before .is-internal .ensures) ∙ c .if1 .left)))

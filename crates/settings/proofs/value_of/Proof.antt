@@ -7,15 +7,6 @@ use Rattle.settings.specs.Table.{entries}
 use Rattle.settings.proofs.value_of.Statement.{statement}
 use Rattle.settings.proofs.value_of.Tie as tie
 
-mul-result : tie.Need-mul-result
-mul-result c = search needs
-
-element-copy-out-result : tie.Need-element-copy-out-result
-element-copy-out-result c = search needs
-
-returns : tie.Need-returns
-returns c = search needs
-
 returns-2 : tie.Need-returns-2
 returns-2 c =
     let v = c .before .args .t1 .values in
@@ -23,4 +14,4 @@ returns-2 c =
     sym (List·getD-eq-default v 0 (omega arith))
 
 pub value-of-spec : {M : Type 1} → statement M
-value-of-spec = tie.close (tie.spec mul-result element-copy-out-result returns returns-2)
+value-of-spec = tie.close (tie.spec (λ c. search needs) (λ c. search needs) (λ c. search needs) returns-2)
