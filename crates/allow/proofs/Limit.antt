@@ -4,8 +4,8 @@ use mathlib.Core.Path.{_≡_, refl, sym}
 use mathlib.Core.Bool.{Bool, true, false, cond, _&&_, and-eq-true-iff}
 use lib.Dec.{eqb}
 use borrow.Author.Tests.{eqb-false}
-use Rattle.settings.specs.Table.{fmod, freq, harm, oflt, send, valueOf, withValue}
-use Rattle.settings.specs.Frequency.{detectionOf, withinLimit, timeConstantStands}
+use Rattle.settings.specs.Table.{fmod, freq, harm, oflt, send, withValue}
+use Rattle.settings.specs.Frequency.{isInternal, detectionOf, withinLimit, timeConstantStands}
 use Rattle.settings.specs.declared.Settings.{Settings}
 use Rattle.settings.proofs.Values.{detection-other}
 use Rattle.storage.specs.Storage.{isReset}
@@ -24,8 +24,8 @@ limit-after s m e v h =
   where
     by : (a b c rest : Bool) → eqb e freq ≡ a → eqb e harm ≡ b → eqb e fmod ≡ c →
         let limit = withinLimit (detectionOf (withValue s e v) (m .external)) in
-        cond a (eqb (valueOf s fmod) 1 && limit) (cond b limit (cond c limit rest)) ≡ true → limit ≡ true
-    by true b c rest f g i p = and-eq-true-iff (eqb (valueOf s fmod) 1) _ .0 p .1
+        cond a (isInternal s && limit) (cond b limit (cond c limit rest)) ≡ true → limit ≡ true
+    by true b c rest f g i p = and-eq-true-iff (isInternal s) _ .0 p .1
     by false true c rest f g i p = p
     by false false true rest f g i p = p
     by false false false rest f g i p =

@@ -3,8 +3,8 @@
 use Prim.Native.Nat.{ℕ}
 use mathlib.Core.Bool.{Bool, true, cond, _&&_}
 use lib.Dec.{eqb}
-use Rattle.settings.specs.Table.{fmod, freq, harm, oflt, send, valueOf, withValue}
-use Rattle.settings.specs.Frequency.{detectionOf, withinLimit, timeConstantStands}
+use Rattle.settings.specs.Table.{fmod, freq, harm, oflt, send, withValue}
+use Rattle.settings.specs.Frequency.{isInternal, detectionOf, withinLimit, timeConstantStands}
 use Rattle.settings.specs.declared.Settings.{Settings}
 use Rattle.storage.specs.Storage.{isReset, holdsOf}
 use Rattle.command.specs.declared.SetArgument.{SetArgument}
@@ -24,7 +24,7 @@ keepsLimit s m entry v = withinLimit (detectionOf (withValue s entry v) (m .exte
 -- storage is reset"
 unfoldable pub valueAllowed : Settings → Moving → ℕ → ℕ → Bool
 valueAllowed s m entry v =
-    cond (eqb entry freq) (eqb (valueOf s fmod) 1 && keepsLimit s m entry v)
+    cond (eqb entry freq) (isInternal s && keepsLimit s m entry v)
     (cond (eqb entry harm) (keepsLimit s m entry v)
     (cond (eqb entry fmod) (keepsLimit s m entry v)
     (cond (eqb entry oflt) (timeConstantStands (detectionOf s (m .external)) v)

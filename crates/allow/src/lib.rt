@@ -20,7 +20,7 @@ fn value_allowed(s: Settings, m: Moving, entry: usize, value: u32) -> bool
     ensures { λ r. ⌜ r ≡ valueAllowed s m entry value ⌝ }
 {
     if entry == settings::FREQ {
-        if settings::value_of(s, settings::FMOD) == settings::INTERNAL {
+        if settings::is_internal(s) {
             return keeps_limit(s, m, entry, value);
         }
         return false;

@@ -476,7 +476,7 @@ fn set_with(meaning: Meaning, args: &[u8]) -> Parsed
     ensures { λ r. ⌜ r ≡ setWith meaning (arguments (now (args .entry))) ⌝ }
 {
     match meaning {
-        Meaning::Setting { entry } => set_setting(entry, args),
+        Meaning::Setting(entry) => set_setting(entry, args),
         Meaning::Channel { base, channels } => set_channel(base, channels, args),
         Meaning::ChannelPair { base, channels } => set_pair(base, channels, args),
         Meaning::Enable(register) => set_enable(register, args),
@@ -494,7 +494,7 @@ fn query_with(meaning: Meaning, args: &[u8]) -> Parsed
     ensures { λ r. ⌜ r ≡ queryWith meaning (arguments (now (args .entry))) ⌝ }
 {
     match meaning {
-        Meaning::Setting { entry } => taken_alone(Kind::Query(QueryArgument::Value(entry)), args),
+        Meaning::Setting(entry) => taken_alone(Kind::Query(QueryArgument::Value(entry)), args),
         Meaning::Channel { base, channels } => query_channel(base, channels, args),
         Meaning::ChannelPair { base, channels } => query_pair(base, channels, args),
         Meaning::Enable(register) => query_enable(register, args),

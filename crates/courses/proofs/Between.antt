@@ -7,7 +7,8 @@ use mathlib.Core.Path.{_≡_, refl, sym, _∙_}
 use lib.Dec.{leb, eqb}
 use borrow.Author.Tests.{leb-true, le-leb, ltb-false, le-ltb, not-true}
 use Rattle.settings.specs.Table.{fmod, freq, harm, oflt, send, startSettings, behind, valueOf, withValue}
-use Rattle.settings.specs.Frequency.{hertz, inForce, detectionOf, withinLimit, above200, timeConstantStands, externalStart}
+use Rattle.settings.specs.Frequency.{hertz, isInternal, inForce, detectionOf}
+use Rattle.settings.specs.Frequency.{withinLimit, above200, timeConstantStands, externalStart}
 use Rattle.settings.specs.Allowed.{keepsAll}
 use Rattle.settings.specs.declared.Settings.{Settings}
 use Rattle.settings.proofs.Kept.{with-keeps}
@@ -49,7 +50,7 @@ cond-mono false f a b h = h
 
 detection-mono : (x : Settings) (f g : ℕ) → f ≤ g → detectionOf x f ≤ detectionOf x g
 unfolding detectionOf inForce
-detection-mono x f g h = mul-le-mul-left (valueOf x harm) (cond-mono (eqb (valueOf x fmod) 1) (valueOf x freq) f g h)
+detection-mono x f g h = mul-le-mul-left (valueOf x harm) (cond-mono (isInternal x) (valueOf x freq) f g h)
 
 within-mono : (x : Settings) (f g : ℕ) → f ≤ g → withinLimit (detectionOf x g) ≡ true → withinLimit (detectionOf x f) ≡ true
 within-mono x f g h e = le-leb (detectionOf x f) (hertz 102000) (omega (arith, detection-mono x f g h, leb-true (detectionOf x g) (hertz 102000) e))
@@ -72,17 +73,17 @@ module _ (x : Settings) (m hi : Moving) (e v : ℕ) where
     limited = within-mono (withValue x e v) (m .external) (hi .external) f
 
     by : (a b c d s : Bool)
-        → cond a (eqb (valueOf x fmod) 1 && withinLimit (detectionOf (withValue x e v) (hi .external)))
+        → cond a (isInternal x && withinLimit (detectionOf (withValue x e v) (hi .external)))
         (cond b (withinLimit (detectionOf (withValue x e v) (hi .external)))
         (cond c (withinLimit (detectionOf (withValue x e v) (hi .external)))
         (cond d (timeConstantStands (detectionOf x (hi .external)) v) (cond s (isReset (hi .storage)) true)))) ≡ true
-        → cond a (eqb (valueOf x fmod) 1 && withinLimit (detectionOf (withValue x e v) (m .external)))
+        → cond a (isInternal x && withinLimit (detectionOf (withValue x e v) (m .external)))
         (cond b (withinLimit (detectionOf (withValue x e v) (m .external)))
         (cond c (withinLimit (detectionOf (withValue x e v) (m .external)))
         (cond d (timeConstantStands (detectionOf x (m .external)) v) (cond s (isReset (m .storage)) true)))) ≡ true
     by true b c d s p =
-        let q = and-eq-true-iff (eqb (valueOf x fmod) 1) (withinLimit (detectionOf (withValue x e v) (hi .external))) .0 p in
-        and-eq-true-iff (eqb (valueOf x fmod) 1) (withinLimit (detectionOf (withValue x e v) (m .external))) .1 (q .0, limited (q .1))
+        let q = and-eq-true-iff (isInternal x) (withinLimit (detectionOf (withValue x e v) (hi .external))) .0 p in
+        and-eq-true-iff (isInternal x) (withinLimit (detectionOf (withValue x e v) (m .external))) .1 (q .0, limited (q .1))
     by false true c d s p = limited p
     by false false true d s p = limited p
     by false false false true s p = stands-mono (leb v 13) _ _ (detection-mono x (m .external) (hi .external) f) p

@@ -8,7 +8,7 @@ use mathlib.Core.List.{List}
 use lib.Dec.{leb, eqb}
 use borrow.Author.Tests.{leb-true}
 use Rattle.settings.specs.Table.{entries, table, fmod, harm, rowOf, tstr, valueOf}
-use Rattle.settings.specs.Frequency.{hertz, inForce, detectionOf, frequencyInRange}
+use Rattle.settings.specs.Frequency.{hertz, isInternal, inForce, detectionOf, frequencyInRange}
 use Rattle.settings.specs.Allowed.{keeps, keepsAll}
 use Rattle.settings.specs.declared.Settings.{Settings}
 use Rattle.settings.proofs.Every.{every-at}
@@ -33,7 +33,7 @@ use Rattle.courses.proofs.Between.{Between}
 
 -- the high course has the highest frequency that can be taken, and with TSTR 1 it has begun
 pub record Ready (x : Settings) (hi : Moving) : Type 0 where
-  pub highest : eqb (valueOf x fmod) 1 ≡ false → (f : ℕ) → valueOf x harm * f ≤ hertz 102000 → f ≤ hi .external
+  pub highest : isInternal x ≡ false → (f : ℕ) → valueOf x harm * f ≤ hertz 102000 → f ≤ hi .external
   pub begun : eqb (valueOf x tstr) triggerStarts ≡ true → isReset (hi .storage) ≡ false
 
 -- HARM is 1 to 19999
@@ -51,13 +51,13 @@ below-highest h f a p = (le-div-iff-mul-le a) .1 (rw (mul-comm h f) at p)
 
 module _ (capacity : ℕ) (x : Settings) (m lo hi : Moving) (k : Between capacity x m lo hi) where
   measured : Between capacity x m lo (measuredHigh x hi)
-      × (eqb (valueOf x fmod) 1 ≡ false → (f : ℕ) → valueOf x harm * f ≤ hertz 102000 → f ≤ measuredHigh x hi .external)
+      × (isInternal x ≡ false → (f : ℕ) → valueOf x harm * f ≤ hertz 102000 → f ≤ measuredHigh x hi .external)
   unfolding measuredHigh detectionOf inForce
-  measured = by (eqb (valueOf x fmod) 1) refl where
+  measured = by (isInternal x) refl where
     raised : Moving
     raised = atFrequency (hertz 102000 / valueOf x harm) hi
 
-    by : (t : Bool) → eqb (valueOf x fmod) 1 ≡ t
+    by : (t : Bool) → isInternal x ≡ t
         → Between capacity x m lo (cond t hi raised)
         × (t ≡ false → (f : ℕ) → valueOf x harm * f ≤ hertz 102000 → f ≤ cond t hi raised .external)
     by true e = (k, λ z. absurd (false≢true (sym z)))
@@ -153,14 +153,14 @@ module _ (model : Model) (x : Settings) (lo hi : Moving) (ready : Ready x hi) (s
 
   measured-within : (f : ℕ) → Within model x lo hi (measuredBy f s)
   unfolding measuredBy
-  measured-within f = by (eqb (valueOf (s .settings) fmod) 1) (takesFrequency s f) refl refl where
-    taken : eqb (valueOf (s .settings) fmod) 1 ≡ false → takesFrequency s f ≡ true → f ≤ hi .external
+  measured-within f = by (isInternal (s .settings)) (takesFrequency s f) refl refl where
+    taken : isInternal (s .settings) ≡ false → takesFrequency s f ≡ true → f ≤ hi .external
     taken e t =
         ready .highest (rw (← alike-value (k .alike) fmod (λ q. omega arith)) e) f
         (rw (← alike-value (k .alike) harm (λ q. omega arith))
         (leb-true (valueOf (s .settings) harm * f) (hertz 102000) (unfold takesFrequency in and-eq-true-iff (frequencyInRange f) _ .0 t .1)))
 
-    by : (a b : Bool) → eqb (valueOf (s .settings) fmod) 1 ≡ a → takesFrequency s f ≡ b
+    by : (a b : Bool) → isInternal (s .settings) ≡ a → takesFrequency s f ≡ b
         → Within model x lo hi
         (cond a s (cond b (crossedFrom (detectionNow s) (withExternal f s)) (withRegisters (withLia (s .registers) notTaken) s)))
     by true b p q = k

@@ -11,8 +11,8 @@ use Rattle.refusal.specs.Meaning.{meaningOf}
 use Rattle.refusal.specs.declared.Refusal.{Refusal}
 use Rattle.refusal.specs.declared.Refusal.the-variants.{NotAllowed, NoRoom, LongLine}
 use Rattle.refusal.specs.Answer.{isNoRoom, drops}
-use Rattle.settings.specs.Table.{entries, fmod, freq, send, behind, valueOf}
-use Rattle.settings.specs.Frequency.{hertz, inForce}
+use Rattle.settings.specs.Table.{entries, freq, send, behind, valueOf}
+use Rattle.settings.specs.Frequency.{hertz, isInternal, inForce}
 use Rattle.settings.specs.Allowed.{keeps, keepsAll}
 use Rattle.settings.proofs.Every.{every-at}
 use Rattle.storage.specs.Storage.{holdsOf}
@@ -88,7 +88,7 @@ module _ (s : State) (a : allowedState s ≡ true) (k : Sized s) where
 
   now-small : (e : ℕ) → valueNow s e < 2 ^ 32
   unfolding valueNow inForce
-  now-small e = by (eqb e freq) (eqb (valueOf (s .settings) fmod) 1) where
+  now-small e = by (eqb e freq) (isInternal (s .settings)) where
     by : (t u : Bool)
         → cond t (cond u (valueOf (s .settings) freq) (s .moving .external)) (valueOf (s .settings) e) < 2 ^ 32
     by true true = value-small freq

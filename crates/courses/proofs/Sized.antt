@@ -13,8 +13,8 @@ use borrow.Author.Tests.{ltb-true}
 use Rattle.refusal.specs.Meaning.{meaningOf}
 use Rattle.refusal.specs.declared.Refusal.{Refusal}
 use Rattle.refusal.proofs.Every.{refusal-rule}
-use Rattle.settings.specs.Table.{entries, table, fmod, oflt, startSettings, behind, valueOf}
-use Rattle.settings.specs.Frequency.{crossingOf, crosses, lifts}
+use Rattle.settings.specs.Table.{entries, table, oflt, startSettings, behind}
+use Rattle.settings.specs.Frequency.{isInternal, crossingOf, crosses, lifts}
 use Rattle.settings.specs.declared.Settings.{Settings}
 use Rattle.storage.specs.Storage.{bit6, triggerStores, setsRunning, triggeredOf}
 use Rattle.storage.specs.declared.Storage.{Storage}
@@ -241,7 +241,7 @@ trigger-sized s one two k = triggered-sized s k
 pub measured-sized : (f : ℕ) (s : State) (one two : List ℕ) → Sized s
     → Sized (eventOf (event.Measured f) s one two .state)
 unfolding eventOf measuredBy
-measured-sized f s one two k = by (eqb (valueOf (s .settings) fmod) 1) (takesFrequency s f) where
+measured-sized f s one two k = by (isInternal (s .settings)) (takesFrequency s f) where
   taken : State
   taken = crossedFrom (detectionNow s) (withExternal f s)
 

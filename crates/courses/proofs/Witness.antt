@@ -7,14 +7,13 @@ use mathlib.Core.Bool.{Bool, true, false, cond, _&&_, false≢true}
 use mathlib.Core.Path.{_≡_, refl, sym, ap, _∙_}
 use mathlib.Core.Logic.{_≢_}
 use mathlib.Core.List.{List, [], _∷_}
-use lib.Dec.{eqb}
 use lib.ListN.{length}
 use borrow.Author.Tests.{le-leb}
 use Rattle.refusal.specs.declared.Refusal.{Refusal}
 use Rattle.refusal.specs.declared.Refusal.the-variants.{NotAllowed, NoReset}
 use Rattle.refusal.specs.declared.Outcome.the-variants as outcome
 use Rattle.settings.specs.Table.{fmod, harm, valueOf}
-use Rattle.settings.specs.Frequency.{hertz}
+use Rattle.settings.specs.Frequency.{isInternal, hertz}
 use Rattle.settings.specs.Allowed.{keepsAll}
 use Rattle.settings.specs.declared.Settings.{Settings}
 use Rattle.command.specs.Parsed.{parsedOf}
@@ -260,7 +259,7 @@ module _ (x : Settings) (s : State) (a : Alike (s .settings) x) (k : keepsAll (s
       (t .unit ≡ s .unit) × Alike (t .settings) x × (t .moving ≡ measuredHigh x m)
   unfolding measuredBy measuredHigh
   measured-at m e =
-      rw (takes-highest, alike-value a fmod (λ q. omega arith)) (by (eqb (valueOf x fmod) 1))
+      rw (takes-highest, alike-value a fmod (λ q. omega arith)) (by (isInternal x))
     where
       taken : State
       taken = crossedFrom (detectionNow s) (withExternal (highest x) s)

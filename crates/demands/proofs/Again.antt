@@ -5,7 +5,7 @@ use mathlib.Core.Bool.{Bool, true, false, true≢false, cond, not, _&&_, _||_, o
 use mathlib.Core.List.{List}
 use native.Mathlib.Omega.{arith}
 use native.Mathlib.Nat.{div-add-mod', mod-one, add-zero}
-use lib.Dec.{T, leb, ltb, eqb, leb→le}
+use lib.Dec.{T, leb, ltb, eqb, eqb→eq, leb→le}
 use borrow.Author.Tests.{lt-ltb, le-ltb, le-leb, lt-leb, leb-true, ltb-true, ltb-false, eqb-true}
 use Rattle.number.specs.Number.{isNumber}
 use Rattle.number.specs.Value.{exactOf}
@@ -17,11 +17,11 @@ use Rattle.number.specs.declared.Reading.the-variants.{Number, NotNumber}
 use Rattle.laws.proofs.Tests.{and-first, and-second}
 use Rattle.text.specs.Text.{distance}
 use Rattle.text.proofs.Again.{read-again}
-use Rattle.settings.specs.Table.{table, rowOf, phas, freq, turnedOf, phase}
+use Rattle.settings.specs.Table.{table, rowOf, turnedOf, phase}
 use Rattle.settings.specs.Setting.{stepOf, turnedAt}
 use Rattle.settings.specs.Parts.{rangeOf, valueTaken}
 use Rattle.settings.specs.Allowed.{keeps}
-use Rattle.settings.proofs.Rows.{row-rule, row-size, row-decimals, step-least}
+use Rattle.settings.proofs.Rows.{row-rule, row-size, row-decimals, step-least, phase-row}
 use Rattle.settings.proofs.Phase.{turned-only}
 use Rattle.settings.proofs.Exact.{value-exact}
 use Rattle.demands.specs.Written.{written, WrittenAgain, WrittenApart}
@@ -105,44 +105,40 @@ kept-in entry v h =
 pub kept-size : (entry v : ℕ) → keeps entry v ≡ true → v ≤ 2147483648
 kept-size entry v h = omega (arith, kept-in entry v h .most, row-size entry)
 
--- where there is a bias the step is 1
-unbiased : (entry : ℕ) → (eqb (rowOf entry .bias) 0 || eqb (rowOf entry .step) 1) ≡ true
-unfolding table
-unbiased entry = by (eqb (rowOf entry .bias) 0 || eqb (rowOf entry .step) 1) (row-rule (λ r. eqb (r .bias) 0 || eqb (r .step) 1) tt tt entry) where
-  by : (t : Bool) → T t → t ≡ true
-  by true h = refl
-  by false h = absurd h
+-- where there is a bias the step is 1, so that the value without its bias lies on the step too
+distance-step : (entry v : ℕ) → v % stepOf entry v ≡ 0 →
+    distance (rowOf entry .bias) v % stepOf entry (distance (rowOf entry .bias) v) ≡ 0
+unfolding stepOf table
+distance-step entry v h =
+    by (eqb (rowOf entry .bias) 0) refl (rowOf entry .scales) refl
+    (row-rule (λ r. eqb (r .bias) 0 || eqb (cond (r .scales) 0 (r .step)) 1) tt tt entry) where
+      by : (t : Bool) → eqb (rowOf entry .bias) 0 ≡ t → (f : Bool) → rowOf entry .scales ≡ f →
+          T (t || eqb (cond f 0 (rowOf entry .step)) 1) →
+          distance (rowOf entry .bias) v % stepOf entry (distance (rowOf entry .bias) v) ≡ 0
+      by true e f g u =
+          let z : distance (rowOf entry .bias) v ≡ v = omega (arith, eqb-true (rowOf entry .bias) 0 e) in
+          rw z h
+      by false e true g u = absurd u
+      by false e false g u = rw (g, eqb→eq (rowOf entry .step) 1 u) (mod-one (distance (rowOf entry .bias) v))
 
--- so that the value without its bias lies on the step too
-distance-step : (entry v : ℕ) → v % stepOf entry v ≡ 0 → distance (rowOf entry .bias) v % stepOf entry (distance (rowOf entry .bias) v) ≡ 0
-unfolding stepOf table rowOf
-distance-step entry v h = by (eqb (rowOf entry .bias) 0) refl (eqb entry freq) refl where
-  by : (t : Bool) → eqb (rowOf entry .bias) 0 ≡ t → (f : Bool) → eqb entry freq ≡ f → distance (rowOf entry .bias) v % stepOf entry (distance (rowOf entry .bias) v) ≡ 0
-  by true e f g =
-      let z : distance (rowOf entry .bias) v ≡ v = omega (arith, eqb-true (rowOf entry .bias) 0 e) in
-      rw z h
-  by false e true g = absurd (true≢false (rw (eqb-true entry freq g) at e))
-  by false e false g =
-      let one : rowOf entry .step ≡ 1 = eqb-true (rowOf entry .step) 1 (rw e at (unbiased entry)) in
-      rw (g, one) (mod-one (distance (rowOf entry .bias) v))
-
--- PHAS leaves a kept phase as it is
-turned-kept : (entry v : ℕ) → Kept entry v → turnedAt entry (Value v) ≡ Value v
-unfolding turnedAt table rowOf
-turned-kept entry v k = by (eqb entry phas) refl where
-  by : (t : Bool) → eqb entry phas ≡ t → Value (cond t (turnedOf v) v) ≡ Value v
+-- a row that turns leaves a kept value as it is
+turned-kept : (entry v : ℕ) → Kept entry v → turnedAt (rowOf entry .turns) (Value v) ≡ Value v
+unfolding turnedAt
+turned-kept entry v k = by (rowOf entry .turns) refl where
+  by : (t : Bool) → rowOf entry .turns ≡ t → Value (cond t (turnedOf v) v) ≡ Value v
   by true e =
-      let l : phase .least ≤ v = rw (eqb-true entry phas e) at (k .least) in
-      let m : v ≤ phase .most = rw (eqb-true entry phas e) at (k .most) in
+      let l : phase .least ≤ v = rw (phase-row entry e) at (k .least) in
+      let m : v ≤ phase .most = rw (phase-row entry e) at (k .most) in
       ap Value (sym (turned-only v v (record { least = l; most = m; turns = refl })))
   by false e = refl
 
 value-taken : (entry v : ℕ) → Kept entry v → valueTaken entry (whole (rowOf entry .bias) v) ≡ Value v
-unfolding valueTaken rangeOf
+unfolding valueTaken rangeOf stepOf
 value-taken entry v k =
     let n = distance (rowOf entry .bias) v in
     let size = row-size entry in
-    rw (taken-whole (rangeOf entry n) v (k .low) (k .high) (omega arith) (omega arith) (step-least entry n) (distance-step entry v (k .step)))
+    rw (taken-whole (rangeOf (rowOf entry) n) v (k .low) (k .high) (omega arith) (omega arith) (step-least entry n)
+    (distance-step entry v (k .step)))
     (turned-kept entry v k)
 
 pub written-again : WrittenAgain

@@ -11,7 +11,8 @@ use Rattle.laws.proofs.Tests.{and-first}
 use Rattle.name.specs.Names.{meaningOf}
 use Rattle.name.specs.declared.Register.{Register}
 use Rattle.name.specs.declared.Meaning.the-variants.{Setting, Channel, ChannelPair, Enable}
-use Rattle.settings.specs.Table.{entries, fmod, freq, behind, valueOf}
+use Rattle.settings.specs.Table.{entries, freq, behind, valueOf}
+use Rattle.settings.specs.Frequency.{isInternal}
 use Rattle.status.specs.Status.{enableOf}
 use Rattle.refusal.specs.declared.Refusal.the-variants.{NotAllowed}
 use Rattle.refusal.specs.declared.Outcome.the-variants.{Done}
@@ -111,7 +112,7 @@ module _ (s : State) (ok : allowedState s ≡ true) (fits : StateFits s) where
   abbrev kept : ℕ → ℕ
   kept entry = valueOf (s .settings) entry
 
-  one-text : (entry : ℕ) → (entry ≡ freq → valueOf (s .settings) fmod ≡ 1) →
+  one-text : (entry : ℕ) → (entry ≡ freq → isInternal (s .settings) ≡ true) →
       textOf (query.Value entry) s false ≡ written entry (kept entry)
   unfolding textOf valueText
   one-text entry f = rw (now-kept s entry f)
@@ -133,7 +134,7 @@ module _ (s : State) (ok : allowedState s ≡ true) (fits : StateFits s) where
       Trip (plainly name (atEntry entry)) s
   back-alone name entry e internal =
       let n = name-of-one name entry e in
-      let own : entry ≡ freq → valueOf (s .settings) fmod ≡ 1 = λ z. internal (ap (λ x. atEntry x ∷ []) z) in
+      let own : entry ≡ freq → isInternal (s .settings) ≡ true = λ z. internal (ap (λ x. atEntry x ∷ []) z) in
       record {
         query = query.Value entry;
         quiet = asValue entry;
@@ -174,7 +175,7 @@ module _ (s : State) (ok : allowedState s ≡ true) (fits : StateFits s) where
         let n = name-of-channel name base channels i some most e in
         let at = base + (i - 1) in
         let past = n .2 .past in
-        let own : at ≡ freq → valueOf (s .settings) fmod ≡ 1 = λ z. absurd (omega arith) in
+        let own : at ≡ freq → isInternal (s .settings) ≡ true = λ z. absurd (omega arith) in
         record {
           query = query.Value at;
           quiet = asValue at;

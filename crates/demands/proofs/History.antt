@@ -11,7 +11,8 @@ use lib.Seq.{getD-set-other}
 use borrow.Author.Tests.{eqb-true, eqb-false, eq-eqb, le-leb}
 use Rattle.refusal.specs.declared.Refusal.{Refusal}
 use Rattle.refusal.specs.declared.Outcome.the-variants.{Refused}
-use Rattle.settings.specs.Table.{oflt, send, fmod, behind, valueOf, withValue}
+use Rattle.settings.specs.Table.{oflt, send, behind, valueOf, withValue}
+use Rattle.settings.specs.Frequency.{isInternal}
 use Rattle.storage.specs.Storage as storage
 use Rattle.storage.specs.declared.Storage.{Storage}
 use Rattle.storage.proofs.Kept.{facts}
@@ -188,7 +189,7 @@ module _ (history : History) (s : State) (one two : List ℕ) (h : Holds history
 
   measured-holds : (x : ℕ) → As (measuredBy x s)
   unfolding measuredBy crossedFrom
-  measured-holds x = by (eqb (valueOf (s .settings) fmod) 1) (takesFrequency s x) where
+  measured-holds x = by (isInternal (s .settings)) (takesFrequency s x) where
     by : (a b : Bool) →
         As (cond a s
         (cond b (crossedFrom (detectionNow s) (withExternal x s)) (withRegisters (withLia (s .registers) notTaken) s)))

@@ -7,10 +7,10 @@ use lib.Dec.{leb, eqb}
 use lib.ListN.{length, length-set, getD}
 use lib.ListN as ListN
 use lib.Seq.{getD-set-same, getD-set-other}
-use borrow.Author.Tests.{eqb-true, eqb-false, eq-eqb, lt-ltb}
+use borrow.Author.Tests.{eqb-true, eqb-false, lt-ltb}
 use Rattle.laws.proofs.Tests.{and-first}
 use Rattle.settings.specs.Table.{entries, fmod, freq, harm, oflt, behind, valueOf, withValue}
-use Rattle.settings.specs.Frequency.{inForce, detectionOf, above200, crossingOf}
+use Rattle.settings.specs.Frequency.{isInternal, inForce, detectionOf, above200, crossingOf}
 use Rattle.settings.specs.Allowed.{keeps, keepsAll, allowedOf}
 use Rattle.settings.specs.declared.Settings.{Settings}
 use Rattle.settings.proofs.Every.{every-at}
@@ -28,13 +28,13 @@ unfolding allowedState keepsParts allowedOf keepsAll
 kept-value s h = every-at (λ entry. keeps entry (valueOf (s .settings) entry)) entries (and-first _ _ (and-first _ _ (and-first _ _ h)))
 
 -- the value that a query replies is the one kept; FREQ's in internal mode
-pub now-kept : (s : State) (entry : ℕ) → (entry ≡ freq → valueOf (s .settings) fmod ≡ 1) → valueNow s entry ≡ valueOf (s .settings) entry
+pub now-kept : (s : State) (entry : ℕ) → (entry ≡ freq → isInternal (s .settings) ≡ true) → valueNow s entry ≡ valueOf (s .settings) entry
 unfolding valueNow inForce
 now-kept s entry f = by (eqb entry freq) refl where
   by : (t : Bool) → eqb entry freq ≡ t → cond t (inForce (s .settings) (s .moving .external)) (valueOf (s .settings) entry) ≡ valueOf (s .settings) entry
   by true e =
       let z : entry ≡ freq = eqb-true entry freq e in
-      rw (eq-eqb (valueOf (s .settings) fmod) 1 (f z), z)
+      rw (f z, z)
   by false e = refl
 
 -- where the detection frequency stays, so does the time constant

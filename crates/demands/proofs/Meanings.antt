@@ -6,7 +6,7 @@ use mathlib.Core.List.{List, [], _∷_}
 use native.Mathlib.Omega.{arith}
 use lib.Dec.{leb, ltb, eqb}
 use lib.ListN.{length}
-use borrow.Author.Tests.{ltb-true, leb-true, eqb-true, ne-eqb}
+use borrow.Author.Tests.{ltb-true, leb-true, eqb-true}
 use Rattle.name.specs.Names.{commands, sameBytes, meaningOf}
 use Rattle.name.specs.declared.Register.{Register}
 use Rattle.name.specs.declared.Meaning.{Meaning}
@@ -14,7 +14,7 @@ use Rattle.name.specs.declared.Meaning.the-variants.{Setting, Channel, ChannelP
 use Rattle.name.specs.declared.Meaning.the-variants.{Points, Trace, Act, Unknown}
 use Rattle.name.proofs.Rule.{same-bytes, name-rule}
 use Rattle.name.proofs.Rule as rule
-use Rattle.settings.specs.Table.{table, rowOf, entries, freq, oflt, send}
+use Rattle.settings.specs.Table.{table, rowOf, entries, oflt, send}
 use Rattle.settings.specs.Setting.{stepOf}
 use Rattle.settings.specs.Allowed.{every, keeps}
 use Rattle.settings.proofs.Every.{every-at}
@@ -23,9 +23,21 @@ use Rattle.demands.proofs.Bytes.{all, inCommand}
 
 -- ---- entries with channels
 
+-- a flag as a number
+abbrev flag : Bool → ℕ
+flag t = cond t 1 0
+
 -- the cells of an entry's row that say how a value is kept and written
 abbrev cells : ℕ → List ℕ
-cells e = rowOf e .bias ∷ rowOf e .decimals ∷ rowOf e .least ∷ rowOf e .most ∷ rowOf e .step ∷ []
+cells e =
+    rowOf e .bias ∷ rowOf e .decimals ∷ rowOf e .least ∷ rowOf e .most ∷ rowOf e .step ∷ flag (rowOf e .scales) ∷ []
+
+-- a flag is known by its number
+same-flag : (a b : Bool) → flag a ≡ flag b → a ≡ b
+same-flag true true e = refl
+same-flag false false e = refl
+same-flag true false e = absurd (omega arith)
+same-flag false true e = absurd (omega arith)
 
 -- two entries that keep and write a value alike; they lie between OFLT and SEND, where no rule binds an entry
 pub record Alike (e f : ℕ) : Type 0 where
@@ -50,9 +62,8 @@ module _ {e f : ℕ} (a : Alike e f) (v : ℕ) where
       let l : rowOf e .least ≡ rowOf f .least = cc in
       let m : rowOf e .most ≡ rowOf f .most = cc in
       let s : rowOf e .step ≡ rowOf f .step = cc in
-      let x = a .past in
-      let y = a .second in
-      rw (l, m, s, ne-eqb e freq (λ z. omega arith), ne-eqb f freq (λ z. omega arith))
+      let t : flag (rowOf e .scales) ≡ flag (rowOf f .scales) = cc in
+      rw (l, m, s, same-flag (rowOf e .scales) (rowOf f .scales) t)
 
 -- entries between OFLT and SEND, by a test of their cells
 alike-at : (e f : ℕ) → oflt < e → e < send → oflt < f → sameBytes (cells e) (cells f) ≡ true → Alike e f

@@ -8,12 +8,12 @@ use lib.Bits.{bitOr, or-zero-r}
 use lib.Dec.{leb, eqb}
 use lib.ListN.{set as set-at}
 use lib.Seq.{set-getD, getD-set-other}
-use borrow.Author.Tests.{eqb-true, eqb-false, eq-eqb, ne-eqb}
+use borrow.Author.Tests.{eqb-true, eqb-false, ne-eqb}
 use Rattle.laws.proofs.Tests.{and-first, and-second}
 use Rattle.name.specs.declared.Register.{Register}
 use Rattle.name.specs.declared.Register.the-variants.{Standard, Service, Lia, Errors}
 use Rattle.settings.specs.Table.{fmod, freq, harm, oflt, send, behind, valueOf, withValue}
-use Rattle.settings.specs.Frequency.{above200, crossingOf, detectionOf, withinLimit, timeConstantStands}
+use Rattle.settings.specs.Frequency.{isInternal, above200, crossingOf, detectionOf, withinLimit, timeConstantStands}
 use Rattle.settings.specs.Frequency.{frequencyInRange}
 use Rattle.settings.specs.Allowed.{keepsAll, allowedOf}
 use Rattle.settings.specs.declared.Settings.{Settings}
@@ -43,7 +43,7 @@ use Rattle.demands.specs.Demand2.{end}
 -- ---- what a state asks of a value, by its entry
 
 value-by : (s : Settings) (m : Moving) (entry v : ℕ) (P : Bool → Type 0) →
-    (entry ≡ freq → P (eqb (valueOf s fmod) 1 && keepsLimit s m entry v)) →
+    (entry ≡ freq → P (isInternal s && keepsLimit s m entry v)) →
     (entry ≡ harm → P (keepsLimit s m entry v)) →
     (entry ≡ fmod → P (keepsLimit s m entry v)) →
     (entry ≡ oflt → P (timeConstantStands (detectionOf s (m .external)) v)) →
@@ -90,13 +90,13 @@ module _ (s : State) (ok : allowedState s ≡ true) where
   unfolding keepsLimit
   own-limit entry = rw (set-getD (s .settings .values) entry 0) (and-first (withinLimit detection) _ rules)
 
-  pub value-back : (entry : ℕ) → (entry ≡ freq → valueOf (s .settings) fmod ≡ 1) →
+  pub value-back : (entry : ℕ) → (entry ≡ freq → isInternal (s .settings) ≡ true) →
       (entry ≡ send → isReset (s .moving .storage) ≡ true) →
       setAllowed (s .settings) (s .moving) (set.Value entry (valueOf (s .settings) entry)) ≡ true
   unfolding setAllowed
   value-back entry internal settable =
       value-by (s .settings) (s .moving) entry (valueOf (s .settings) entry) (λ t. t ≡ true)
-      (λ z. rw (eq-eqb (valueOf (s .settings) fmod) 1 (internal z)) (own-limit entry))
+      (λ z. rw (internal z) (own-limit entry))
       (λ z. own-limit entry) (λ z. own-limit entry)
       (λ z. rw z (and-second (withinLimit detection) _ rules))
       settable refl

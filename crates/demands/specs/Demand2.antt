@@ -20,6 +20,7 @@ use Rattle.name.specs.Names.{meaningOf}
 use Rattle.name.specs.declared.Register.{Register}
 use Rattle.name.specs.declared.Meaning.the-variants.{Setting, Channel, ChannelPair, Enable}
 use Rattle.settings.specs.Table.{entries, fmod, freq, harm, oflt, send, behind, valueOf}
+use Rattle.settings.specs.Frequency.{isInternal}
 use Rattle.storage.specs.Storage.{isReset}
 use Rattle.status.specs.Status.{enableOf}
 use Rattle.refusal.specs.declared.Refusal.the-variants.{NotAllowed}
@@ -156,7 +157,7 @@ pub data SentBack (places : List Place) (values : List ℕ) (t : Module) (one tw
 
 -- FREQ? replies the frequency in force, which is FREQ's own value in internal mode
 abbrev pub Internal : Address → State → Type 0
-Internal a s = a .holds ≡ atEntry freq ∷ [] → valueOf (s .settings) fmod ≡ 1
+Internal a s = a .holds ≡ atEntry freq ∷ [] → isInternal (s .settings) ≡ true
 
 -- SEND is set only while storage is reset
 abbrev pub Settable : Address → State → Type 0

@@ -4,10 +4,9 @@ use Prim.Native.Nat.{ℕ, _*_}
 use mathlib.Core.Bool.{Bool, true, false, cond, and-eq-true-iff}
 use mathlib.Core.List.{List}
 use mathlib.Core.Path.{_≡_, refl}
-use lib.Dec.{eqb}
 use lib.ListN.{length, set, length-set}
-use Rattle.settings.specs.Table.{fmod, harm, valueOf}
-use Rattle.settings.specs.Frequency.{inForce, detectionOf, withinLimit, frequencyInRange}
+use Rattle.settings.specs.Table.{harm, valueOf}
+use Rattle.settings.specs.Frequency.{isInternal, inForce, detectionOf, withinLimit, frequencyInRange}
 use Rattle.storage.specs.declared.Sampled.{Sampled}
 use Rattle.status.specs.Status as status
 use Rattle.status.specs.declared.Registers.{Registers}
@@ -59,7 +58,7 @@ module _ (s : State) (h : allowedState s ≡ true) where
     by false p = h
 
   -- a frequency that is taken is in its range, and the detection frequency that it makes within the limit
-  external-stays : (f : ℕ) → eqb (valueOf (s .settings) fmod) 1 ≡ false → takesFrequency s f ≡ true
+  external-stays : (f : ℕ) → isInternal (s .settings) ≡ false → takesFrequency s f ≡ true
       → allowedState (crossedFrom (detectionNow s) (withExternal f s)) ≡ true
   unfolding takesFrequency
   external-stays f m p =
@@ -78,8 +77,8 @@ module _ (s : State) (h : allowedState s ≡ true) where
   -- a measured frequency: ignored, taken, or not taken
   measured-stays : (f : ℕ) → allowedState (measuredBy f s) ≡ true
   unfolding measuredBy
-  measured-stays f = by (eqb (valueOf (s .settings) fmod) 1) refl (takesFrequency s f) refl where
-    by : (m : Bool) → eqb (valueOf (s .settings) fmod) 1 ≡ m → (t : Bool) → takesFrequency s f ≡ t
+  measured-stays f = by (isInternal (s .settings)) refl (takesFrequency s f) refl where
+    by : (m : Bool) → isInternal (s .settings) ≡ m → (t : Bool) → takesFrequency s f ≡ t
         → allowedState
         (cond m s
         (cond t (crossedFrom (detectionNow s) (withExternal f s))
@@ -118,7 +117,7 @@ event-unit (Latest w v) s one two = unit-either (keepsLatest (pairOf w v)) (with
 event-unit Tick s one two = refl
 event-unit Trigger s one two = refl
 event-unit (Measured f) s one two =
-    unit-measured (eqb (valueOf (s .settings) fmod) 1) (takesFrequency s f)
+    unit-measured (isInternal (s .settings)) (takesFrequency s f)
     (crossedFrom (detectionNow s) (withExternal f s))
     (withRegisters (status.withLia (s .registers) notTaken) s)
     s refl refl

@@ -2,12 +2,11 @@
 use Prim.Native.Nat.{ℕ, _*_, _^_}
 use mathlib.Core.Bool.{Bool, cond, _&&_}
 use mathlib.Core.List.{List}
-use lib.Dec.{eqb}
 use Rattle.refusal.specs.declared.Refusal.the-variants.{BadEvent}
 use Rattle.refusal.specs.declared.Outcome.{Outcome}
 use Rattle.refusal.specs.declared.Outcome.the-variants.{Done, Refused}
-use Rattle.settings.specs.Table.{fmod, harm, valueOf}
-use Rattle.settings.specs.Frequency.{withinLimit, frequencyInRange}
+use Rattle.settings.specs.Table.{harm, valueOf}
+use Rattle.settings.specs.Frequency.{isInternal, withinLimit, frequencyInRange}
 use Rattle.status.specs.Status.{withLia, withRaised, mayRaise}
 use Rattle.storage.specs.declared.Sampled.{Sampled}
 use Rattle.state.specs.State.{pairOf, atFrequency, withMoving, withRegisters, withLatest, detectionNow, crossedFrom}
@@ -57,7 +56,7 @@ notTaken = 2 ^ 3
 -- taken, LIA bit 3 is set and the answer is 0."
 unfoldable pub measuredBy : ℕ → State → State
 measuredBy f s =
-    cond (eqb (valueOf (s .settings) fmod) 1) s
+    cond (isInternal (s .settings)) s
     (cond (takesFrequency s f) (crossedFrom (detectionNow s) (withExternal f s))
     (withRegisters (withLia (s .registers) notTaken) s))
 

@@ -77,8 +77,7 @@ fn with_external(s: State, frequency: u32) -> State
 fn measured(s: State, frequency: u32) -> State
     ensures { λ r. ⌜ r ≡ measuredBy frequency s ⌝ }
 {
-    let mode = settings::value_of(s.settings, settings::FMOD);
-    if mode == settings::INTERNAL {
+    if settings::is_internal(s.settings) {
         return s;
     }
     if takes_frequency(s, frequency) {

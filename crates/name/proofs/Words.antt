@@ -53,6 +53,7 @@ same-four (a ∷ b ∷ c ∷ d ∷ []) (e ∷ f ∷ g ∷ h ∷ []) p q =
     same-word a b c d e f g h (ltb→lt a 256 (p1 .0)) (ltb→lt b 256 (p2 .0)) (ltb→lt c 256 (p3 .0))
     (ltb→lt d 256 (p3 .1)) (ltb→lt e 256 (q1 .0)) (ltb→lt f 256 (q2 .0)) (ltb→lt g 256 (q3 .0)) (ltb→lt h 256 (q3 .1))
 
+-- and of a whole list of names
 found-is : (ns : List Named) → T (allFour ns) → (s : List ℕ) → T (isFour s) → foundIn ns (word s) ≡ meaningIn ns s
 unfolding foundIn meaningIn
 found-is [] t s f = refl

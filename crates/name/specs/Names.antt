@@ -1,25 +1,31 @@
--- The command names of document 01, each with what it stands for: every one and no other, in alphabetical order, "*" first.
+-- The command names of document 01, each with what it stands for: every one and no other, in alphabetical order, "*"
+-- first.
 use Prim.Native.Nat.{ℕ}
 use Prim.Native.String.{String}
 use mathlib.Core.Bool.{Bool, true, false, cond, _&&_}
 use mathlib.Core.List.{List, [], _∷_}
 use lib.Dec.{eqb}
 use Rattle.divide.specs.Ascii.{bytes}
+use Rattle.settings.specs.Table.{phas, fmod, freq, rslp, harm, slvl, isrc, ilin, ofsl, ignd, icpl, sync, sens, rmod}
+use Rattle.settings.specs.Table.{oflt, ddef1j, fpop1, oexp1x, auxv1, srat, send, tstr}
 use Rattle.name.specs.declared.Meaning.{Meaning}
-use Rattle.name.specs.declared.Meaning.the-variants.{Setting, Channel, ChannelPair, Enable, Status, Identity, Points, Trace, Act, Unknown}
+use Rattle.name.specs.declared.Meaning.the-variants.{Setting, Channel, ChannelPair, Enable, Status, Identity}
+use Rattle.name.specs.declared.Meaning.the-variants.{Points, Trace, Act, Unknown}
 use Rattle.name.specs.declared.Form.the-variants.{Words, Floats}
 use Rattle.name.specs.declared.Register.the-variants.{Standard, Service, Lia, Errors}
 use Rattle.name.specs.declared.Action.the-variants.{Reset, Clear, Start, Pause, Empty, Trigger}
 
--- "A command is four letters, or "*" and three"
+-- a name, of four letters or of "*" and three, with what it stands for
 pub record Named : Type 0 where
   pub name : List ℕ
   pub meaning : Meaning
 
+-- a name given as text
 abbrev named : String → Meaning → Named
 named s m = record { name = bytes s; meaning = m }
 
--- settings by their entry in the settings table; those with channels by the entry of the first and the number of channels
+-- the commands: a setting by its entry in the settings table, one with channels by the first one's entry and the number
+-- of channels
 abbrev pub commands : List Named
 commands =
     named "*CLS" (Act Clear)
@@ -29,47 +35,49 @@ commands =
     ∷ named "*RST" (Act Reset)
     ∷ named "*SRE" (Enable Service)
     ∷ named "*STB" (Status Service)
-    ∷ named "AUXV" (Channel 27 4)
-    ∷ named "DDEF" (ChannelPair 15 2)
+    ∷ named "AUXV" (Channel auxv1 4)
+    ∷ named "DDEF" (ChannelPair ddef1j 2)
     ∷ named "ERRE" (Enable Errors)
     ∷ named "ERRS" (Status Errors)
-    ∷ named "FMOD" (Setting 1)
-    ∷ named "FPOP" (Channel 19 2)
-    ∷ named "FREQ" (Setting 2)
-    ∷ named "HARM" (Setting 4)
-    ∷ named "ICPL" (Setting 10)
-    ∷ named "IGND" (Setting 9)
-    ∷ named "ILIN" (Setting 7)
-    ∷ named "ISRC" (Setting 6)
+    ∷ named "FMOD" (Setting fmod)
+    ∷ named "FPOP" (Channel fpop1 2)
+    ∷ named "FREQ" (Setting freq)
+    ∷ named "HARM" (Setting harm)
+    ∷ named "ICPL" (Setting icpl)
+    ∷ named "IGND" (Setting ignd)
+    ∷ named "ILIN" (Setting ilin)
+    ∷ named "ISRC" (Setting isrc)
     ∷ named "LIAE" (Enable Lia)
     ∷ named "LIAS" (Status Lia)
-    ∷ named "OEXP" (ChannelPair 21 3)
-    ∷ named "OFLT" (Setting 14)
-    ∷ named "OFSL" (Setting 8)
+    ∷ named "OEXP" (ChannelPair oexp1x 3)
+    ∷ named "OFLT" (Setting oflt)
+    ∷ named "OFSL" (Setting ofsl)
     ∷ named "PAUS" (Act Pause)
-    ∷ named "PHAS" (Setting 0)
+    ∷ named "PHAS" (Setting phas)
     ∷ named "REST" (Act Empty)
-    ∷ named "RMOD" (Setting 13)
-    ∷ named "RSLP" (Setting 3)
-    ∷ named "SEND" (Setting 32)
-    ∷ named "SENS" (Setting 12)
-    ∷ named "SLVL" (Setting 5)
+    ∷ named "RMOD" (Setting rmod)
+    ∷ named "RSLP" (Setting rslp)
+    ∷ named "SEND" (Setting send)
+    ∷ named "SENS" (Setting sens)
+    ∷ named "SLVL" (Setting slvl)
     ∷ named "SPTS" Points
-    ∷ named "SRAT" (Setting 31)
+    ∷ named "SRAT" (Setting srat)
     ∷ named "STRT" (Act Start)
-    ∷ named "SYNC" (Setting 11)
+    ∷ named "SYNC" (Setting sync)
     ∷ named "TRCB" (Trace Floats)
     ∷ named "TRCL" (Trace Words)
     ∷ named "TRIG" (Act Trigger)
-    ∷ named "TSTR" (Setting 33)
+    ∷ named "TSTR" (Setting tstr)
     ∷ []
 
+-- whether two lists are of the same bytes
 abbrev pub sameBytes : List ℕ → List ℕ → Bool
 sameBytes [] [] = true
 sameBytes [] (b ∷ t) = false
 sameBytes (a ∷ s) [] = false
 sameBytes (a ∷ s) (b ∷ t) = eqb a b && sameBytes s t
 
+-- what a name stands for in a list of names
 unfoldable pub meaningIn : List Named → List ℕ → Meaning
 meaningIn [] s = Unknown
 meaningIn (n ∷ ns) s = cond (sameBytes (n .name) s) (n .meaning) (meaningIn ns s)

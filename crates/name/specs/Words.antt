@@ -1,5 +1,5 @@
--- The promise on the search for a name, proved in `proofs/Words.antt`: by its four bytes as one number the same meaning is
--- found as byte by byte. Assumes nothing.
+-- The promise on the search for a name, proved in `proofs/Words.antt`: by its four bytes as one number the same meaning
+-- is found as byte by byte. Assumes nothing.
 use Prim.Native.Nat.{ℕ}
 use mathlib.Core.Bool.{Bool, false, _&&_}
 use mathlib.Core.Path.{_≡_}

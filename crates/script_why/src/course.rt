@@ -22,7 +22,7 @@ pub struct Course {
 fn measure(course: Course, m: Module, one: &mut [u32], two: &mut [u32]) -> Module {
     let state = m.state;
     let settings = state.settings;
-    if settings::value_of(settings, settings::FMOD) == settings::INTERNAL {
+    if settings::is_internal(settings) {
         return m;
     }
     let frequency = two_courses::highest(settings::value_of(settings, settings::HARM));

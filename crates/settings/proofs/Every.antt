@@ -10,6 +10,7 @@ use Rattle.laws.proofs.Tests.{and-first, and-second}
 use Rattle.settings.specs.Allowed.{every}
 
 module _ (test : ℕ → Bool) where
+  -- one number more
   pub every-more : (n : ℕ) → every test n ≡ true → test n ≡ true → every test (n + 1) ≡ true
   unfolding every
   every-more n h t = rw (add-one n, h, t)
@@ -23,6 +24,7 @@ module _ (test : ℕ → Bool) where
     by true e ih = rw (← eqb-true i n e, f, and-false)
     by false e ih = rw (ih (omega (arith, eqb-false i n e)))
 
+  -- the test at each number
   pub every-at : (n : ℕ) → every test n ≡ true → (i : ℕ) → i < n → test i ≡ true
   unfolding every
   every-at zero h i l = absurd (omega arith)
@@ -31,6 +33,7 @@ module _ (test : ℕ → Bool) where
     by true e ih = rw (eqb-true i n e) (and-second (every test n) (test n) h)
     by false e ih = ih (omega (arith, eqb-false i n e))
 
+  -- and back
   pub every-of : (n : ℕ) → ((i : ℕ) → i < n → test i ≡ true) → every test n ≡ true
   unfolding every
   every-of zero f = refl

@@ -1,7 +1,7 @@
--- Every value kept is every value in its range, and FREQ and SLVL on their steps. Assumes nothing.
+-- Every value kept is every value in its range, and the frequency and the level on their steps. Assumes nothing.
 use Prim.Native.Nat.{ℕ, zero, suc, _+_, _%_, _<_}
 use mathlib.Core.Path.{_≡_, refl, _∙_}
-use mathlib.Core.Bool.{Bool, true, false, _&&_, _||_}
+use mathlib.Core.Bool.{Bool, true, false, cond, _&&_, _||_}
 use mathlib.Core.List.{List, [], _∷_, map}
 use native.Mathlib.Omega.{arith}
 use native.Mathlib.Nat.{mod-one, le-of-suc-le-suc, not-suc-le-zero}
@@ -9,21 +9,23 @@ use native.Mathlib.Numerals.{add-one}
 use lib.Dec.{leb, eqb}
 use lib.ListN.{length, getD}
 use borrow.Author.Tests.{eqb-true}
-use Rattle.settings.specs.Table.{entries, table, rowOf, noRow, freq, slvl, valueOf}
+use Rattle.settings.specs.Table.{entries, table, rowOf, noRow, level, freq, slvl, valueOf}
 use Rattle.settings.specs.Frequency.{frequencyStep}
-use Rattle.settings.specs.Setting.{stepOf}
+use Rattle.settings.specs.Setting.{stepWith, stepOf}
 use Rattle.settings.specs.Allowed.{keeps, every, keepsAll}
 use Rattle.settings.specs.declared.Row.{Row}
 use Rattle.settings.specs.declared.Settings.{Settings}
 use Rattle.settings.proofs.Every.{every-at, every-of, every-fails}
 
--- a value in its entry's range, and on its entry's step
+-- a value in its entry's range
 abbrev pub inRange : ℕ → ℕ → Bool
 inRange entry x = leb (rowOf entry .least) x && leb x (rowOf entry .most)
 
+-- a value on its entry's step
 abbrev onStep : Settings → ℕ → Bool
 onStep s entry = eqb (valueOf s entry % stepOf entry (valueOf s entry)) 0
 
+-- five tests in another order
 swapped : (p q r s t : Bool) → (p && q) && (r && (s && t)) ≡ (p && (r && s)) && (q && t)
 swapped true true true s t = refl
 swapped true true false s t = refl
@@ -41,42 +43,52 @@ parts a b c (suc n) = rw (parts a b c n) (swapped (every (λ i. a i && b i) n) (
 -- a test that can fail at two numbers alone
 module _ (test : ℕ → Bool) (n i j : ℕ) (below-i : i < n) (below-j : j < n)
     (others : (k : ℕ) → k < n → eqb k i ≡ false → eqb k j ≡ false → test k ≡ true) where
+  -- the test at any number, by the tests at the two
   at : (a b : Bool) (k : ℕ) → k < n → eqb k i ≡ a → eqb k j ≡ b → test i ≡ true → test j ≡ true → test k ≡ true
   at true b k l p q t u = rw (eqb-true k i p) t
   at false true k l p q t u = rw (eqb-true k j q) u
   at false false k l p q t u = others k l p q
 
+  -- the whole, by the tests at the two
   by : (a b : Bool) → test i ≡ a → test j ≡ b → every test n ≡ a && b
   by true true t u = every-of test n (λ k l. at (eqb k i) (eqb k j) k l refl refl t u)
   by true false t u = every-fails test n j below-j u
   by false b t u = every-fails test n i below-i t
 
+  -- so the test of all is the test of the two
   two : every test n ≡ test i && test j
   two = by (test i) (test j) refl refl
 
 -- every other entry has step 1
 abbrev single : ℕ → Bool
-single entry = eqb entry freq || (eqb entry slvl || eqb (rowOf entry .step) 1)
+single entry = eqb entry freq || (eqb entry slvl || eqb (stepWith (rowOf entry) 0) 1)
 
+-- which computes
 single-all : every single entries ≡ true
 unfolding table rowOf every
 single-all = refl
 
+-- so that any value of theirs lies on the step
 single-at : (s : Settings) (entry : ℕ) → entry < entries → eqb entry freq ≡ false → eqb entry slvl ≡ false →
     onStep s entry ≡ true
 unfolding stepOf
 single-at s entry h p q =
-    let e : rowOf entry .step ≡ 1 = eqb-true _ _ (rw (p, q) at (every-at single entries single-all entry h)) in
-    rw (p, e, mod-one (valueOf s entry))
+    by (rowOf entry .scales) (eqb-true _ _ (rw (p, q) at (every-at single entries single-all entry h))) where
+      by : (t : Bool) → cond t 0 (rowOf entry .step) ≡ 1 →
+          eqb (valueOf s entry % cond t (frequencyStep (valueOf s entry)) (rowOf entry .step)) 0 ≡ true
+      by true e = absurd (omega (arith, e))
+      by false e = rw (e, mod-one (valueOf s entry))
 
+-- all steps are the frequency's and the level's
 steps : (s : Settings) → every (onStep s) entries
-    ≡ eqb (valueOf s freq % frequencyStep (valueOf s freq)) 0 && eqb (valueOf s slvl % 2) 0
+    ≡ eqb (valueOf s freq % frequencyStep (valueOf s freq)) 0 && eqb (valueOf s slvl % level .step) 0
 unfolding stepOf rowOf table
 steps s = two (onStep s) entries freq slvl (omega arith) (omega arith) (single-at s)
 
+-- every value kept, in the parts that the code tests
 pub keeps-parts : (s : Settings) → keepsAll s
     ≡ every (λ e. inRange e (valueOf s e)) entries
-    && (eqb (valueOf s freq % frequencyStep (valueOf s freq)) 0 && eqb (valueOf s slvl % 2) 0)
+    && (eqb (valueOf s freq % frequencyStep (valueOf s freq)) 0 && eqb (valueOf s slvl % level .step) 0)
 unfolding keepsAll keeps
 keeps-parts s =
     parts (λ e. leb (rowOf e .least) (valueOf s e)) (λ e. leb (valueOf s e) (rowOf e .most)) (onStep s) entries

@@ -1,4 +1,4 @@
--- PHAS is "kept in -179.99 to 180.00 by whole turns". Assumes nothing.
+-- The phase is brought by whole turns into the range that is kept. Assumes nothing.
 use Prim.Native.Nat.{ℕ, _%_, _≤_}
 use mathlib.Core.Path.{_≡_}
 use native.Mathlib.Omega.{arith}
@@ -10,6 +10,7 @@ pub record Turned (x r : ℕ) : Type 0 where
   pub most : r ≤ phase .most
   pub turns : r % turn ≡ x % turn
 
+-- what is kept of a phase lies so
 pub turned-is : (x : ℕ) → Turned x (turnedOf x)
 unfolding turnedOf
 turned-is x = record { least = omega arith; most = omega arith; turns = omega arith }

@@ -3,8 +3,9 @@ use mathlib.Core.Path.{_≡_, refl}
 use mathlib.Core.Bool.{Bool, true, _&&_}
 use mathlib.Core.List.{[], _∷_, map}
 use lib.Dec.{leb}
-use Rattle.settings.specs.Limits.{frequencyLow, frequencyHigh, frequencyStart}
-use Rattle.settings.specs.Table.{entries, table, rowOf, startSettings, valueOf, whole, above, phase, phas, fmod, freq, harm, slvl, oflt, srat, send, tstr}
+use lib.ListN.{length}
+use Rattle.settings.specs.Table.{entries, table, rowOf, startSettings, valueOf, whole, phase, frequency, level}
+use Rattle.settings.specs.Table.{phas, fmod, freq, harm, slvl, oflt, srat, send, tstr}
 use Rattle.settings.specs.Frequency.{stepBy, inForce, detectionOf, externalStart}
 use Rattle.settings.specs.Setting.{stepOf}
 use Rattle.settings.specs.Allowed.{keeps, every, keepsAll, allowedOf}
@@ -20,10 +21,16 @@ pub external-start : externalStart ≡ valueOf startSettings freq
 unfolding table startSettings
 external-start = refl
 
+-- the entries are those of the table
+pub entries-counted : entries ≡ length table
+unfolding table
+entries-counted = refl
+
 -- arguments can be taken, and what a state keeps is among them
 abbrev ordered : Row → Bool
 ordered r = leb (r .low) (r .least) && (leb (r .least) (r .most) && leb (r .most) (r .high))
 
+-- every row is so
 pub rows-ordered : every (λ entry. ordered (rowOf entry)) entries ≡ true
 unfolding table rowOf every
 rows-ordered = refl
@@ -31,6 +38,7 @@ rows-ordered = refl
 -- the entries that rules name have the rows of their settings
 pub entries-named :
     map rowOf (phas ∷ fmod ∷ freq ∷ harm ∷ slvl ∷ oflt ∷ srat ∷ send ∷ tstr ∷ [])
-    ≡ phase ∷ whole 0 1 1 ∷ above 4 frequencyLow frequencyHigh 1 frequencyStart ∷ whole 1 19999 1 ∷ above 3 4 5000 2 1000 ∷ whole 0 19 8 ∷ whole 0 14 4 ∷ whole 0 1 1 ∷ whole 0 1 0 ∷ []
+    ≡ phase ∷ whole 0 1 1 ∷ frequency ∷ whole 1 19999 1 ∷ level ∷ whole 0 19 8 ∷ whole 0 14 4 ∷ whole 0 1 1
+    ∷ whole 0 1 0 ∷ []
 unfolding table rowOf
 entries-named = refl

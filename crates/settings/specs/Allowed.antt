@@ -16,10 +16,11 @@ unfoldable pub every : (ℕ → Bool) → ℕ → Bool
 every test zero = true
 every test (suc n) = every test n && test n
 
+-- every value may be kept
 unfoldable pub keepsAll : Settings → Bool
 keepsAll s = every (λ entry. keeps entry (valueOf s entry)) entries
 
--- with the limits on the external frequency, the detection frequency and the time constant
+-- settings that a state may have: with the limits on the external and detection frequencies and the time constant
 unfoldable pub allowedOf : Settings → ℕ → Bool
 allowedOf s external =
     let detection = detectionOf s external in

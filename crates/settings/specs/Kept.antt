@@ -11,7 +11,8 @@ use Rattle.settings.specs.declared.Settings.{Settings}
 
 -- what a text sets at an entry of the table is a value that a state may keep there
 abbrev pub SettingKeeps : Type 0
-SettingKeeps = (entry : ℕ) → entry < entries → (s : List ℕ) (x : ℕ) → settingOf entry s ≡ Value x → keeps entry x ≡ true
+SettingKeeps = (entry : ℕ) → entry < entries → (s : List ℕ) (x : ℕ) → settingOf entry s ≡ Value x →
+    keeps entry x ≡ true
 
 -- and settings of such values, with one more such value, are of such values
 abbrev pub WithKeeps : Type 0

@@ -4,14 +4,15 @@ use Prim.Native.Nat.{ℕ, _*_}
 use mathlib.Core.Bool.{Bool, _&&_}
 use lib.Dec.{leb}
 
--- the least and the most points of a trace
+-- the least points of a trace
 abbrev pub capacityLeast : ℕ
 capacityLeast = 1
 
+-- the most points of a trace
 abbrev pub capacityMost : ℕ
 capacityMost = 16383
 
--- whether traces may have so many points
+-- whether a number may be the capacity of the traces
 abbrev pub capacityFits : ℕ → Bool
 capacityFits capacity = leb capacityLeast capacity && leb capacity capacityMost
 
@@ -19,13 +20,15 @@ capacityFits capacity = leb capacityLeast capacity && leb capacity capacityMost
 abbrev pub hertz : ℕ → ℕ
 hertz n = n * 10000
 
--- FREQ and the external frequency lie from 0.001 Hz to 102000 Hz, and start at 1000 Hz
+-- the lowest FREQ and external frequency, 0.001 Hz
 abbrev pub frequencyLow : ℕ
 frequencyLow = 10
 
+-- the highest FREQ and external frequency, 102 kHz
 abbrev pub frequencyHigh : ℕ
 frequencyHigh = hertz 102000
 
+-- FREQ and the external frequency at start, 1 kHz
 abbrev pub frequencyStart : ℕ
 frequencyStart = hertz 1000
 
@@ -33,9 +36,10 @@ frequencyStart = hertz 1000
 abbrev pub detectionLimit : ℕ
 detectionLimit = hertz 102000
 
--- above a detection frequency of 200 Hz the longest time constant is 13 (30 s)
+-- the detection frequency above which no long time constant stands, 200 Hz
 abbrev pub longLimit : ℕ
 longLimit = hertz 200
 
+-- the longest time constant above it, 30 s
 abbrev pub longestAbove : ℕ
 longestAbove = 13

@@ -1,6 +1,6 @@
 -- The settings table of document 01, row by row, and the values that settings have.
 use Prim.Native.Nat.{ℕ, _+_, _-_, _%_}
-use mathlib.Core.Bool.{cond}
+use mathlib.Core.Bool.{true, false, cond}
 use mathlib.Core.List.{List, [], _∷_, map}
 use lib.Dec.{ltb}
 use lib.ListN.{getD, set}
@@ -8,137 +8,236 @@ use Rattle.settings.specs.Limits.{frequencyLow, frequencyHigh, frequency
 use Rattle.settings.specs.declared.Row.{Row}
 use Rattle.settings.specs.declared.Settings.{Settings}
 
--- Units: 0.01 for PHAS and OEXP x, 0.001 for SLVL and AUXV, 0.0001 for FREQ, 1 for every other. A value of x units is kept as x + bias, so
--- that none is negative, and a row's low, high, least, most and start are kept so too.
+-- Units: 0.01 for PHAS and OEXP x, 0.001 for SLVL and AUXV, 0.0001 for FREQ, 1 for every other. A value of x units is
+-- kept as x + bias, so that none is negative, and a row's low, high, least, most and start are kept so too.
 
--- whole numbers, "low-high"
+-- a row whose arguments are all kept as they are, on a step of its own
+abbrev pub plain : (bias low high step decimals start : ℕ) → Row
+plain bias low high step decimals start =
+    record {
+      bias = bias;
+      low = low;
+      high = high;
+      least = low;
+      most = high;
+      step = step;
+      scales = false;
+      turns = false;
+      decimals = decimals;
+      start = start;
+    }
+
+-- whole numbers from low to high
 abbrev pub whole : ℕ → ℕ → ℕ → Row
-whole low high start =
-    record { bias = 0; low = low; high = high; least = low; most = high; step = 1; decimals = 0; start = start }
+whole low high start = plain 0 low high 1 0 start
 
--- a value above zero, "low to high, step"
-abbrev pub above : (decimals low high step start : ℕ) → Row
-above decimals low high step start =
-    record { bias = 0; low = low; high = high; least = low; most = high; step = step; decimals = decimals; start = start }
-
--- "-end to end", start 0
+-- from -end to end, start 0
 abbrev pub signed : (decimals end : ℕ) → Row
-signed decimals end =
-    record { bias = end; low = 0; high = end + end; least = 0; most = end + end; step = 1; decimals = decimals; start = end }
+signed decimals end = plain end 0 (end + end) 1 decimals end
 
 -- a whole turn, 360.00
 abbrev pub turn : ℕ
 turn = 36000
 
--- "-360.00 to 729.99, 0.01", start 0; a state keeps "-179.99 to 180.00"; the bias is a whole turn
+-- half a turn, 180.00
+abbrev pub halfTurn : ℕ
+halfTurn = 18000
+
+-- the phase: -360.00 to 729.99, start 0; a state keeps -179.99 to 180.00; the bias is a whole turn
 abbrev pub phase : Row
 phase =
     record {
       bias = turn;
       low = turn - turn;
       high = turn + 72999;
-      least = turn - 17999;
-      most = turn + 18000;
+      least = turn - halfTurn + 1;
+      most = turn + halfTurn;
       step = 1;
+      scales = false;
+      turns = true;
       decimals = 2;
       start = turn;
     }
 
--- "once rounded, kept in -179.99 to 180.00 by whole turns"
+-- the frequency: its step goes by the value (`Frequency.stepBy`), and is never finer than 1
+abbrev pub frequency : Row
+frequency =
+    record {
+      bias = 0;
+      low = frequencyLow;
+      high = frequencyHigh;
+      least = frequencyLow;
+      most = frequencyHigh;
+      step = 1;
+      scales = true;
+      turns = false;
+      decimals = 4;
+      start = frequencyStart;
+    }
+
+-- the level of the sine output: 0.004 to 5.000 V by 0.002, start 1
+abbrev pub level : Row
+level = plain 0 4 5000 2 3 1000
+
+-- a phase brought by whole turns into the range that is kept
 unfoldable pub turnedOf : ℕ → ℕ
 turnedOf x = phase .least + (x + (turn - phase .least)) % turn
 
+-- the table: a row for each entry, in the order of the entries
 unfoldable pub table : List Row
 table =
-    phase  -- 0 PHAS x: -360.00 to 729.99, 0.01
-    ∷ whole 0 1 1  -- 1 FMOD i: 0 external, 1 internal; start 1
-    ∷ above 4 frequencyLow frequencyHigh 1 frequencyStart  -- 2 FREQ f: 0.001 to 102000 Hz; start 1000 (step by value)
-    ∷ whole 0 2 0  -- 3 RSLP i: 0-2
-    ∷ whole 1 19999 1  -- 4 HARM i: 1-19999; start 1
-    ∷ above 3 4 5000 2 1000  -- 5 SLVL x: 0.004 to 5.000 V, 0.002; start 1
-    ∷ whole 0 3 0  -- 6 ISRC: 0-3
-    ∷ whole 0 3 0  -- 7 ILIN: 0-3
-    ∷ whole 0 3 1  -- 8 OFSL: 0-3; start 1
-    ∷ whole 0 1 0  -- 9 IGND: 0-1
-    ∷ whole 0 1 0  -- 10 ICPL: 0-1
-    ∷ whole 0 1 0  -- 11 SYNC: 0-1
-    ∷ whole 0 26 26  -- 12 SENS: 0-26; start 26
-    ∷ whole 0 2 2  -- 13 RMOD: 0-2; start 2
-    ∷ whole 0 19 8  -- 14 OFLT: 0-19; start 8
-    ∷ whole 0 4 0  -- 15 DDEF 1 j: 0-4
-    ∷ whole 0 2 0  -- 16 DDEF 1 k: 0-2
-    ∷ whole 0 4 0  -- 17 DDEF 2 j
-    ∷ whole 0 2 0  -- 18 DDEF 2 k
-    ∷ whole 0 1 0  -- 19 FPOP 1 j: 0-1
-    ∷ whole 0 1 0  -- 20 FPOP 2 j
-    ∷ signed 2 10500  -- 21 OEXP 1 x: -105.00 to 105.00 step 0.01
-    ∷ whole 0 2 0  -- 22 OEXP 1 j: 0-2
-    ∷ signed 2 10500  -- 23 OEXP 2 x
-    ∷ whole 0 2 0  -- 24 OEXP 2 j
-    ∷ signed 2 10500  -- 25 OEXP 3 x
-    ∷ whole 0 2 0  -- 26 OEXP 3 j
-    ∷ signed 3 10500  -- 27 AUXV 1 x: -10.500 to 10.500, 0.001
-    ∷ signed 3 10500  -- 28 AUXV 2 x
-    ∷ signed 3 10500  -- 29 AUXV 3 x
-    ∷ signed 3 10500  -- 30 AUXV 4 x
-    ∷ whole 0 14 4  -- 31 SRAT: 0-14; start 4
-    ∷ whole 0 1 1  -- 32 SEND: 0-1; start 1
-    ∷ whole 0 1 0  -- 33 TSTR: 0-1
+    phase  -- PHAS x: -360.00 to 729.99, 0.01
+    ∷ whole 0 1 1  -- FMOD i: 0 external, 1 internal; start 1
+    ∷ frequency  -- FREQ f: 0.001 to 102000 Hz; start 1000 (step by value)
+    ∷ whole 0 2 0  -- RSLP i: 0-2
+    ∷ whole 1 19999 1  -- HARM i: 1-19999; start 1
+    ∷ level  -- SLVL x: 0.004 to 5.000 V, 0.002; start 1
+    ∷ whole 0 3 0  -- ISRC: 0-3
+    ∷ whole 0 3 0  -- ILIN: 0-3
+    ∷ whole 0 3 1  -- OFSL: 0-3; start 1
+    ∷ whole 0 1 0  -- IGND: 0-1
+    ∷ whole 0 1 0  -- ICPL: 0-1
+    ∷ whole 0 1 0  -- SYNC: 0-1
+    ∷ whole 0 26 26  -- SENS: 0-26; start 26
+    ∷ whole 0 2 2  -- RMOD: 0-2; start 2
+    ∷ whole 0 19 8  -- OFLT: 0-19; start 8
+    ∷ whole 0 4 0  -- DDEF 1 j: 0-4
+    ∷ whole 0 2 0  -- DDEF 1 k: 0-2
+    ∷ whole 0 4 0  -- DDEF 2 j
+    ∷ whole 0 2 0  -- DDEF 2 k
+    ∷ whole 0 1 0  -- FPOP 1 j: 0-1
+    ∷ whole 0 1 0  -- FPOP 2 j
+    ∷ signed 2 10500  -- OEXP 1 x: -105.00 to 105.00 step 0.01
+    ∷ whole 0 2 0  -- OEXP 1 j: 0-2
+    ∷ signed 2 10500  -- OEXP 2 x
+    ∷ whole 0 2 0  -- OEXP 2 j
+    ∷ signed 2 10500  -- OEXP 3 x
+    ∷ whole 0 2 0  -- OEXP 3 j
+    ∷ signed 3 10500  -- AUXV 1 x: -10.500 to 10.500, 0.001
+    ∷ signed 3 10500  -- AUXV 2 x
+    ∷ signed 3 10500  -- AUXV 3 x
+    ∷ signed 3 10500  -- AUXV 4 x
+    ∷ whole 0 14 4  -- SRAT: 0-14; start 4
+    ∷ whole 0 1 1  -- SEND: 0-1; start 1
+    ∷ whole 0 1 0  -- TSTR: 0-1
     ∷ []
 
-abbrev pub entries : ℕ
-entries = 34
-
--- entries that rules name
+-- PHAS, the phase
 abbrev pub phas : ℕ
 phas = 0
 
+-- FMOD, the reference's mode
 abbrev pub fmod : ℕ
 fmod = 1
 
+-- FREQ, the internal frequency
 abbrev pub freq : ℕ
 freq = 2
 
+-- RSLP, the reference's slope
+abbrev pub rslp : ℕ
+rslp = 3
+
+-- HARM, the harmonic
 abbrev pub harm : ℕ
 harm = 4
 
+-- SLVL, the level of the sine output
 abbrev pub slvl : ℕ
 slvl = 5
 
+-- ISRC, the input's source
+abbrev pub isrc : ℕ
+isrc = 6
+
+-- ILIN, the line filters
+abbrev pub ilin : ℕ
+ilin = 7
+
+-- OFSL, the filter's slope
+abbrev pub ofsl : ℕ
+ofsl = 8
+
+-- IGND, the input's shield
+abbrev pub ignd : ℕ
+ignd = 9
+
+-- ICPL, the input's coupling
+abbrev pub icpl : ℕ
+icpl = 10
+
+-- SYNC, the synchronous filter
+abbrev pub sync : ℕ
+sync = 11
+
+-- SENS, the sensitivity
+abbrev pub sens : ℕ
+sens = 12
+
+-- RMOD, the reserve
+abbrev pub rmod : ℕ
+rmod = 13
+
+-- OFLT, the time constant
 abbrev pub oflt : ℕ
 oflt = 14
 
+-- DDEF of channel 1: j, behind it k, and then channel 2
+abbrev pub ddef1j : ℕ
+ddef1j = 15
+
+-- FPOP of output 1, behind it that of output 2
+abbrev pub fpop1 : ℕ
+fpop1 = 19
+
+-- OEXP of channel 1: x, behind it j, and then channels 2 and 3
+abbrev pub oexp1x : ℕ
+oexp1x = 21
+
+-- AUXV of output 1, behind it those of outputs 2 to 4
+abbrev pub auxv1 : ℕ
+auxv1 = 27
+
+-- SRAT, the sample rate
 abbrev pub srat : ℕ
 srat = 31
 
+-- SEND, the end of storage
 abbrev pub send : ℕ
 send = 32
 
+-- TSTR, the start by a trigger
 abbrev pub tstr : ℕ
 tstr = 33
 
--- the entry behind an entry of the table, which holds the second value of a pair: "DDEF i,j,k", "OEXP i,x,j"
+-- the number of entries
+abbrev pub entries : ℕ
+entries = tstr + 1
+
+-- the entry behind an entry of the table, which holds the second value of a pair (DDEF, OEXP)
 unfoldable pub behind : ℕ → ℕ
 behind entry = cond (ltb entry entries) (entry + 1) entries
 
--- past the table: no value is taken
+-- the row past the table: no value is taken
 abbrev pub noRow : Row
 noRow = whole 1 0 0
 
+-- the row of an entry
 unfoldable pub rowOf : ℕ → Row
 rowOf entry = getD table entry noRow
 
+-- a row's value at start
 abbrev pub startOf : Row → ℕ
 startOf r = r .start
 
--- "*RST restores every setting .. to the start"
+-- every setting at its start, as after *RST
 unfoldable pub startSettings : Settings
 startSettings = record { values = map startOf table }
 
--- 0 past the table
+-- the value of an entry, 0 past the table
 abbrev pub valueOf : Settings → ℕ → ℕ
 valueOf s entry = getD (s .values) entry 0
 
--- unchanged past the table
+-- settings with another value at an entry, unchanged past the table
 abbrev pub withValue : Settings → ℕ → ℕ → Settings
 withValue s entry value = record { values = set (s .values) entry value }

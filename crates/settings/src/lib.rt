@@ -4,8 +4,9 @@ ghost use mathlib.Core.Bool.{_&&_};
 ghost use Prim.Native.Nat.{_%_};
 ghost use lib.Dec.{leb, eqb};
 ghost use Rattle.settings.specs.Table.{entries, rowOf, startSettings, turnedOf, behind, valueOf, withValue};
-ghost use Rattle.settings.specs.Frequency.{frequencyStep, inForce, detectionOf, withinLimit, above200, timeConstantStands, crossingOf, frequencyInRange};
-ghost use Rattle.settings.specs.Setting.{stepOf, turnedAt};
+ghost use Rattle.settings.specs.Frequency.{frequencyStep, isInternal, inForce, detectionOf, frequencyInRange};
+ghost use Rattle.settings.specs.Frequency.{withinLimit, above200, timeConstantStands, crossingOf};
+ghost use Rattle.settings.specs.Setting.{stepWith, turnedAt};
 ghost use Rattle.settings.specs.Parts.{rangeOf, valueTaken};
 ghost use Rattle.settings.specs.Allowed.{every, keepsAll, allowedOf};
 
@@ -13,96 +14,193 @@ mod table;
 
 pub use table::row_of;
 
-// Entries of the table that rules name.
+// The phase of the reference.
 pub const PHAS: usize = 0;
 
+// The mode of the reference: internal or external.
 pub const FMOD: usize = 1;
 
+// The internal frequency.
 pub const FREQ: usize = 2;
 
+// The slope by which an external reference triggers.
+pub const RSLP: usize = 3;
+
+// The harmonic that is detected.
 pub const HARM: usize = 4;
 
+// The level of the sine output.
 pub const SLVL: usize = 5;
 
+// The source of the input.
+pub const ISRC: usize = 6;
+
+// The line filters.
+pub const ILIN: usize = 7;
+
+// The slope of the output filter.
+pub const OFSL: usize = 8;
+
+// The grounding of the input's shield.
+pub const IGND: usize = 9;
+
+// The coupling of the input.
+pub const ICPL: usize = 10;
+
+// The synchronous filter.
+pub const SYNC: usize = 11;
+
+// The sensitivity.
+pub const SENS: usize = 12;
+
+// The reserve.
+pub const RMOD: usize = 13;
+
+// The time constant of the output filter.
 pub const OFLT: usize = 14;
 
+// What display 1 shows.
+pub const DDEF_1J: usize = 15;
+
+// The ratio of display 1.
+pub const DDEF_1K: usize = 16;
+
+// What display 2 shows.
+pub const DDEF_2J: usize = 17;
+
+// The ratio of display 2.
+pub const DDEF_2K: usize = 18;
+
+// What front output 1 gives.
+pub const FPOP_1: usize = 19;
+
+// What front output 2 gives.
+pub const FPOP_2: usize = 20;
+
+// The offset of channel 1.
+pub const OEXP_1X: usize = 21;
+
+// The expand of channel 1.
+pub const OEXP_1J: usize = 22;
+
+// The offset of channel 2.
+pub const OEXP_2X: usize = 23;
+
+// The expand of channel 2.
+pub const OEXP_2J: usize = 24;
+
+// The offset of channel 3.
+pub const OEXP_3X: usize = 25;
+
+// The expand of channel 3.
+pub const OEXP_3J: usize = 26;
+
+// The voltage of auxiliary output 1.
+pub const AUXV_1: usize = 27;
+
+// The voltage of auxiliary output 2.
+pub const AUXV_2: usize = 28;
+
+// The voltage of auxiliary output 3.
+pub const AUXV_3: usize = 29;
+
+// The voltage of auxiliary output 4.
+pub const AUXV_4: usize = 30;
+
+// The rate of samples.
 pub const SRAT: usize = 31;
 
+// What happens at the end of storage: one shot or a loop.
 pub const SEND: usize = 32;
 
+// Whether a trigger starts storage.
 pub const TSTR: usize = 33;
 
-pub const ENTRIES: usize = 34;
+// The number of entries.
+pub const ENTRIES: usize = TSTR + 1;
 
 // FMOD with the internal frequency in force.
 pub const INTERNAL: u32 = 1;
 
-// LIA bits as masks: 200 Hz crossed, and the time constant changed.
-pub const CROSSED: u8 = 16;
+// The LIA bit, as a mask, of a crossing of 200 Hz.
+pub const CROSSED: u8 = 1 << 4;
 
-pub const SHORTENED: u8 = 32;
-
-// A turn of PHAS, which is its bias too, and the lowest and highest phase kept, with the bias.
-const TURN: u32 = 36000;
-
-const PHASE_LEAST: u32 = 18001;
-
-const PHASE_MOST: u32 = 54000;
+// The LIA bit, as a mask, of a time constant that a crossing made shorter.
+pub const SHORTENED: u8 = 1 << 5;
 
 // From the lowest phase kept to a whole turn.
-const TO_TURN: u32 = TURN - PHASE_LEAST;
+const TO_TURN: u32 = table::TURN - table::PHASE_LEAST;
 
-// The step of SLVL.
-const LEVEL_STEP: u32 = 2;
-
-// A setting's part of the table. A value x in units of the last decimal is kept as x + bias, and so are all values here: an argument may lie from low to high, a state keeps least to most.
+// A setting's row of the table. A value of x units of the last decimal is kept as x + bias, and so are all values here.
 pub struct Row {
+    // What is added to a value, so that none is negative.
     pub bias: u32,
+    // The lowest argument that is taken.
     pub low: u32,
+    // The highest argument that is taken.
     pub high: u32,
+    // The lowest value that a state keeps.
     pub least: u32,
+    // The highest value that a state keeps.
     pub most: u32,
+    // The step on which values lie, unless it goes by the value.
     pub step: u32,
+    // Whether the step goes by the value.
+    pub scales: bool,
+    // Whether an argument is brought by whole turns into the range that is kept.
+    pub turns: bool,
+    // The decimals of the argument's unit.
     pub decimals: u8,
+    // The value at start.
     pub start: u32,
 }
 
 // Every setting's value, by entry.
 pub struct Settings {
+    // The values with their bias.
     pub values: [u32; ENTRIES],
 }
 
-// What a change of the detection frequency does: the time constant after it, and the LIA bits that it sets.
+// What a change of the detection frequency does.
 pub struct Crossing {
+    // The time constant after it.
     pub constant: u32,
+    // The LIA bits that it sets, as a mask.
     pub bits: u8,
 }
 
 impl Settings {
-    // The capacity of the traces: the least and the most points.
+    // The least points of a trace.
     pub const CAPACITY_LEAST: u32 = 1;
 
+    // The most points of a trace.
     pub const CAPACITY_MOST: u32 = 16383;
 
-    // Frequencies in units of 0.1 mHz: the range of FREQ and of the external frequency, and the start of both.
+    // A hertz in the units of frequencies, 0.1 mHz.
+    const HERTZ: u32 = 10000;
+
+    // The lowest FREQ and external frequency, 0.001 Hz.
     pub const FREQUENCY_LOW: u32 = 10;
 
-    pub const FREQUENCY_HIGH: u32 = 1020000000;
+    // The highest FREQ and external frequency, 102 kHz.
+    pub const FREQUENCY_HIGH: u32 = 102000 * Settings::HERTZ;
 
-    pub const FREQUENCY_START: u32 = 10000000;
+    // FREQ and the external frequency at start, 1 kHz.
+    pub const FREQUENCY_START: u32 = 1000 * Settings::HERTZ;
 
-    // The highest detection frequency, 102 kHz, in the same units: a rule of its own beside FREQ's range.
-    pub const DETECTION_LIMIT: u32 = 1020000000;
+    // The highest detection frequency, 102 kHz: a rule of its own beside FREQ's range.
+    pub const DETECTION_LIMIT: u32 = 102000 * Settings::HERTZ;
 
-    // The detection frequency above which no long time constant stands, 200 Hz, and the longest one that does.
-    pub const LONG_LIMIT: u32 = 2000000;
+    // The detection frequency above which no long time constant stands, 200 Hz.
+    pub const LONG_LIMIT: u32 = 200 * Settings::HERTZ;
 
+    // The longest time constant above it.
     pub const LONGEST_ABOVE: u32 = 13;
 
     // Every value at start, with its bias.
     pub const START: [u32; ENTRIES] = [
-        TURN, // PHAS
-        1, // FMOD
+        table::TURN, // PHAS
+        INTERNAL, // FMOD
         Settings::FREQUENCY_START, // FREQ
         0, // RSLP
         1, // HARM
@@ -182,37 +280,43 @@ pub fn turned(value: u32) -> u32
     ensures { λ r. ⌜ r ≡ turnedOf value ⌝ }
 {
     let x = value as u64;
-    (PHASE_LEAST as u64 + (x + TO_TURN as u64) % TURN as u64) as u32
+    (table::PHASE_LEAST as u64 + (x + TO_TURN as u64) % table::TURN as u64) as u32
 }
 
-// The step of FREQ, by its value's whole units before rounding.
+// The step that goes by the value: by its whole units before rounding.
 pub fn frequency_step(whole: u64) -> u32
     ensures { λ r. ⌜ r ≡ frequencyStep whole ⌝ }
 {
-    if whole < 100000 {
+    if whole < 100_000 {
         return 1;
     }
-    if whole < 1000000 {
+    if whole < 1_000_000 {
         return 10;
     }
-    if whole < 10000000 {
+    if whole < 10_000_000 {
         return 100;
     }
-    if whole < 100000000 {
-        return 1000;
+    if whole < 100_000_000 {
+        return 1_000;
     }
-    if whole < 1000000000 {
-        return 10000;
+    if whole < 1_000_000_000 {
+        return 10_000;
     }
-    100000
+    100_000
 }
 
-// The frequency in force: the internal one where FMOD is 1, else the external one.
+// Whether the reference is the internal frequency.
+pub fn is_internal(s: Settings) -> bool
+    ensures { λ r. ⌜ r ≡ isInternal s ⌝ }
+{
+    value_of(s, FMOD) == INTERNAL
+}
+
+// The frequency in force: the internal one or the external one, by the reference's mode.
 pub fn in_force(s: Settings, external: u32) -> u32
     ensures { λ r. ⌜ r ≡ inForce s external ⌝ }
 {
-    let mode = value_of(s, FMOD);
-    if mode == INTERNAL {
+    if is_internal(s) {
         return value_of(s, FREQ);
     }
     external
@@ -279,23 +383,21 @@ pub fn frequency_in_range(frequency: u32) -> bool
     (Settings::FREQUENCY_LOW <= frequency) & (frequency <= Settings::FREQUENCY_HIGH)
 }
 
-// The step of an entry, by its value's whole units before rounding.
-pub fn step_of(entry: usize, whole: u64) -> u32
-    ensures { λ r. ⌜ r ≡ stepOf entry whole ⌝ }
+// The step of a row's values, by the value's whole units before rounding.
+fn step_of(row: Row, whole: u64) -> u32
+    ensures { λ r. ⌜ r ≡ stepWith row (frequencyStep whole) ⌝ }
 {
-    if entry == FREQ {
+    if row.scales {
         return frequency_step(whole);
     }
-    let row = row_of(entry);
     row.step
 }
 
-// The range of an entry's argument, for a number of so many whole units.
-pub fn range_of(entry: usize, whole: u64) -> number::Range
-    ensures { λ r. ⌜ r ≡ rangeOf entry whole ⌝ }
+// The range of a row's argument, for a number by its whole units.
+fn range_of(row: Row, whole: u64) -> number::Range
+    ensures { λ r. ⌜ r ≡ rangeOf row whole ⌝ }
 {
-    let row = row_of(entry);
-    let step = step_of(entry, whole);
+    let step = step_of(row, whole);
     number::Range {
         bias: row.bias,
         low: row.low,
@@ -305,21 +407,23 @@ pub fn range_of(entry: usize, whole: u64) -> number::Range
     }
 }
 
-// A number taken as an entry's argument, or refusal 2: PHAS is turned once it is rounded.
+// A number taken as an entry's argument, or refusal 2: where the row turns, it is turned once it is rounded.
 pub fn take_value(entry: usize, q: number::Quantity) -> number::Argument
     ensures { λ r. ⌜ r ≡ valueTaken entry q ⌝ }
 {
-    let range = range_of(entry, q.whole);
-    turned_at(entry, number::take(q, range))
+    let row = row_of(entry);
+    let range = range_of(row, q.whole);
+    turned_at(row.turns, number::take(q, range))
 }
 
-fn turned_at(entry: usize, taken: number::Argument) -> number::Argument
-    ensures { λ r. ⌜ r ≡ turnedAt entry taken ⌝ }
+// An argument, turned where its row turns.
+fn turned_at(turns: bool, taken: number::Argument) -> number::Argument
+    ensures { λ r. ⌜ r ≡ turnedAt turns taken ⌝ }
 {
     let number::Argument::Value(value) = taken else {
         return number::Argument::Refused;
     };
-    if entry == PHAS {
+    if turns {
         return number::Argument::Value(turned(value));
     }
     number::Argument::Value(value)
@@ -352,9 +456,9 @@ fn on_frequency_step(value: u32) -> bool
         1 => true,
         10 => value % 10 == 0,
         100 => value % 100 == 0,
-        1000 => value % 1000 == 0,
-        10000 => value % 10000 == 0,
-        _ => value % 100000 == 0,
+        1_000 => value % 1_000 == 0,
+        10_000 => value % 10_000 == 0,
+        _ => value % 100_000 == 0,
     }
 }
 
@@ -362,7 +466,7 @@ fn on_frequency_step(value: u32) -> bool
 pub fn keeps_all(s: Settings) -> bool
     ensures { λ r. ⌜ r ≡ keepsAll s ⌝ }
 {
-    let steps = on_frequency_step(value_of(s, FREQ)) & (value_of(s, SLVL) % LEVEL_STEP == 0);
+    let steps = on_frequency_step(value_of(s, FREQ)) & (value_of(s, SLVL) % table::LEVEL_STEP == 0);
     in_ranges(s) & steps
 }
 

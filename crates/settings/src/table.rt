@@ -3,45 +3,58 @@
 ghost use mathlib.Core.Path.{_≡_};
 ghost use mathlib.Core.List.{map};
 ghost use Prim.Native.Nat.{_+_, _^_, _<_};
-ghost use Rattle.settings.specs.Table.{whole, above, signed, phase, table, rowOf};
+ghost use Rattle.settings.specs.Table.{plain, whole, signed, phase, frequency, level, table, rowOf};
 use super::ENTRIES;
-use super::LEVEL_STEP;
-use super::PHASE_LEAST;
-use super::PHASE_MOST;
 use super::Row;
 use super::Settings;
-use super::TURN;
 
-// A whole number from low to high.
-fn whole(low: u32, high: u32, start: u32) -> Row
-    ensures { λ r. ⌜ r ≡ whole low high start ⌝ }
+// A whole turn of the phase, 360.00, which is its bias too.
+pub const TURN: u32 = 36000;
+
+// Half a turn, 180.00: kept as it is, and -180.00 as half a turn.
+const HALF_TURN: u32 = 18000;
+
+// The lowest phase kept, with the bias.
+pub const PHASE_LEAST: u32 = TURN - HALF_TURN + 1;
+
+// The highest phase kept, with the bias.
+const PHASE_MOST: u32 = TURN + HALF_TURN;
+
+// The highest phase that is taken, 729.99, with the bias.
+const PHASE_HIGH: u32 = TURN + 72999;
+
+// The lowest level of the sine output, 0.004 V.
+const LEVEL_LEAST: u32 = 4;
+
+// The highest level of the sine output, 5 V.
+const LEVEL_MOST: u32 = 5000;
+
+// The step of the level, 0.002 V.
+pub const LEVEL_STEP: u32 = 2;
+
+// A row whose arguments are all kept as they are, on a step of its own.
+fn plain(bias: u32, low: u32, high: u32, step: u32, decimals: u8, start: u32) -> Row
+    ensures { λ r. ⌜ r ≡ plain bias low high step decimals start ⌝ }
 {
     Row {
-        bias: 0,
-        low,
-        high,
-        least: low,
-        most: high,
-        step: 1,
-        decimals: 0,
-        start,
-    }
-}
-
-// A value above zero, from low to high by a step.
-fn above(decimals: u8, low: u32, high: u32, step: u32, start: u32) -> Row
-    ensures { λ r. ⌜ r ≡ above decimals low high step start ⌝ }
-{
-    Row {
-        bias: 0,
+        bias,
         low,
         high,
         least: low,
         most: high,
         step,
+        scales: false,
+        turns: false,
         decimals,
         start,
     }
+}
+
+// Whole numbers from low to high.
+fn whole(low: u32, high: u32, start: u32) -> Row
+    ensures { λ r. ⌜ r ≡ whole low high start ⌝ }
+{
+    plain(0, low, high, 1, 0, start)
 }
 
 // A value from -end to end that starts at 0.
@@ -49,16 +62,7 @@ fn signed(decimals: u8, end: u32) -> Row
     requires { ⌜ end + end < 2 ^ 32 ⌝ }
     ensures { λ r. ⌜ r ≡ signed decimals end ⌝ }
 {
-    Row {
-        bias: end,
-        low: 0,
-        high: end + end,
-        least: 0,
-        most: end + end,
-        step: 1,
-        decimals,
-        start: end,
-    }
+    plain(end, 0, end + end, 1, decimals, end)
 }
 
 // The phase: an argument may lie further out than a state keeps it.
@@ -68,12 +72,32 @@ fn phase() -> Row
     Row {
         bias: TURN,
         low: 0,
-        high: 108999,
+        high: PHASE_HIGH,
         least: PHASE_LEAST,
         most: PHASE_MOST,
         step: 1,
+        scales: false,
+        turns: true,
         decimals: 2,
         start: TURN,
+    }
+}
+
+// The frequency: its step goes by the value, and is never finer than 1.
+fn frequency() -> Row
+    ensures { λ r. ⌜ r ≡ frequency ⌝ }
+{
+    Row {
+        bias: 0,
+        low: Settings::FREQUENCY_LOW,
+        high: Settings::FREQUENCY_HIGH,
+        least: Settings::FREQUENCY_LOW,
+        most: Settings::FREQUENCY_HIGH,
+        step: 1,
+        scales: true,
+        turns: false,
+        decimals: 4,
+        start: Settings::FREQUENCY_START,
     }
 }
 
@@ -82,58 +106,52 @@ pub fn row_of(entry: usize) -> Row
     ensures { λ r. ⌜ r ≡ rowOf entry ⌝ }
 {
     match entry {
-        0 => phase(), // PHAS
-        1 => whole(0, 1, 1), // FMOD
-        2 => above(
-            4,
-            Settings::FREQUENCY_LOW,
-            Settings::FREQUENCY_HIGH,
-            1,
-            Settings::FREQUENCY_START,
-        ), // FREQ
-        3 => whole(0, 2, 0), // RSLP
-        4 => whole(1, 19999, 1), // HARM
-        5 => above(3, 4, 5000, LEVEL_STEP, 1000), // SLVL
-        6 => whole(0, 3, 0), // ISRC
-        7 => whole(0, 3, 0), // ILIN
-        8 => whole(0, 3, 1), // OFSL
-        9 => whole(0, 1, 0), // IGND
-        10 => whole(0, 1, 0), // ICPL
-        11 => whole(0, 1, 0), // SYNC
-        12 => whole(0, 26, 26), // SENS
-        13 => whole(0, 2, 2), // RMOD
-        14 => whole(0, 19, 8), // OFLT
-        15 => whole(0, 4, 0), // DDEF 1 j
-        16 => whole(0, 2, 0), // DDEF 1 k
-        17 => whole(0, 4, 0), // DDEF 2 j
-        18 => whole(0, 2, 0), // DDEF 2 k
-        19 => whole(0, 1, 0), // FPOP 1
-        20 => whole(0, 1, 0), // FPOP 2
-        21 => signed(2, 10500), // OEXP 1 x
-        22 => whole(0, 2, 0), // OEXP 1 j
-        23 => signed(2, 10500), // OEXP 2 x
-        24 => whole(0, 2, 0), // OEXP 2 j
-        25 => signed(2, 10500), // OEXP 3 x
-        26 => whole(0, 2, 0), // OEXP 3 j
-        27 => signed(3, 10500), // AUXV 1
-        28 => signed(3, 10500), // AUXV 2
-        29 => signed(3, 10500), // AUXV 3
-        30 => signed(3, 10500), // AUXV 4
-        31 => whole(0, 14, 4), // SRAT
-        32 => whole(0, 1, 1), // SEND
-        33 => whole(0, 1, 0), // TSTR
+        super::PHAS => phase(),
+        super::FMOD => whole(0, 1, super::INTERNAL),
+        super::FREQ => frequency(),
+        super::RSLP => whole(0, 2, 0),
+        super::HARM => whole(1, 19999, 1),
+        super::SLVL => plain(0, LEVEL_LEAST, LEVEL_MOST, LEVEL_STEP, 3, 1000),
+        super::ISRC => whole(0, 3, 0),
+        super::ILIN => whole(0, 3, 0),
+        super::OFSL => whole(0, 3, 1),
+        super::IGND => whole(0, 1, 0),
+        super::ICPL => whole(0, 1, 0),
+        super::SYNC => whole(0, 1, 0),
+        super::SENS => whole(0, 26, 26),
+        super::RMOD => whole(0, 2, 2),
+        super::OFLT => whole(0, 19, 8),
+        super::DDEF_1J => whole(0, 4, 0),
+        super::DDEF_1K => whole(0, 2, 0),
+        super::DDEF_2J => whole(0, 4, 0),
+        super::DDEF_2K => whole(0, 2, 0),
+        super::FPOP_1 => whole(0, 1, 0),
+        super::FPOP_2 => whole(0, 1, 0),
+        super::OEXP_1X => signed(2, 10500),
+        super::OEXP_1J => whole(0, 2, 0),
+        super::OEXP_2X => signed(2, 10500),
+        super::OEXP_2J => whole(0, 2, 0),
+        super::OEXP_3X => signed(2, 10500),
+        super::OEXP_3J => whole(0, 2, 0),
+        super::AUXV_1 => signed(3, 10500),
+        super::AUXV_2 => signed(3, 10500),
+        super::AUXV_3 => signed(3, 10500),
+        super::AUXV_4 => signed(3, 10500),
+        super::SRAT => whole(0, 14, 4),
+        super::SEND => whole(0, 1, 1),
+        super::TSTR => whole(0, 1, 0),
         _ => whole(1, 0, 0),
     }
 }
 
-// The lowest value of each entry that a state keeps, and the highest.
+// The lowest value of each entry that a state keeps, with its bias.
 const LEAST: [u32; ENTRIES] = [
     PHASE_LEAST, // PHAS
     0, // FMOD
     Settings::FREQUENCY_LOW, // FREQ
     0, // RSLP
     1, // HARM
-    4, // SLVL
+    LEVEL_LEAST, // SLVL
     0, // ISRC
     0, // ILIN
     0, // OFSL
@@ -164,13 +182,14 @@ const LEAST: [u32; ENTRIES] = [
     0, // TSTR
 ];
 
+// The highest value of each entry that a state keeps, with its bias.
 const MOST: [u32; ENTRIES] = [
     PHASE_MOST, // PHAS
     1, // FMOD
     Settings::FREQUENCY_HIGH, // FREQ
     2, // RSLP
     19999, // HARM
-    5000, // SLVL
+    LEVEL_MOST, // SLVL
     3, // ISRC
     3, // ILIN
     3, // OFSL

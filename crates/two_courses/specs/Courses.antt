@@ -1,11 +1,11 @@
 -- The two courses that the check follows, under one settings value: document 01, "The script check".
 use Prim.Native.Nat.{ℕ, _/_}
 use mathlib.Core.Bool.{Bool, false, cond, _&&_, _||_}
-use lib.Dec.{eqb}
 use Rattle.refusal.specs.declared.Refusal.the-variants.{NotAllowed, NoReset}
 use Rattle.refusal.specs.declared.Outcome.{Outcome}
 use Rattle.refusal.specs.declared.Outcome.the-variants as outcome
-use Rattle.settings.specs.Table.{fmod, harm, startSettings, valueOf}
+use Rattle.settings.specs.Table.{harm, startSettings, valueOf}
+use Rattle.settings.specs.Frequency.{isInternal}
 use Rattle.settings.specs.Limits.{detectionLimit}
 use Rattle.settings.specs.declared.Settings.{Settings}
 use Rattle.storage.specs.Storage.{triggeredOf}
@@ -29,7 +29,7 @@ resets (Act a) = isReset a
 -- before each line the high course measures the highest frequency that is taken, the limit over the harmonic ..
 unfoldable pub measuredHigh : Settings → Moving → Moving
 measuredHigh s m =
-    cond (eqb (valueOf s fmod) 1) m (atFrequency (detectionLimit / valueOf s harm) m)
+    cond (isInternal s) m (atFrequency (detectionLimit / valueOf s harm) m)
 
 -- .. and then has a trigger
 unfoldable pub triggeredHigh : ℕ → Settings → Moving → Moving

@@ -74,7 +74,7 @@ pub fn highest(harmonic: u32) -> u32
 fn measured_high(s: Settings, m: Moving) -> Moving
     ensures { λ r. ⌜ r ≡ measuredHigh s m ⌝ }
 {
-    if settings::value_of(s, settings::FMOD) == settings::INTERNAL {
+    if settings::is_internal(s) {
         return m;
     }
     let mut t = m;

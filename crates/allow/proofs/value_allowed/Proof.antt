@@ -1,6 +1,6 @@
 -- `allow::value_allowed` meets its contract. Assumes nothing.
 use borrow.Author.Tests.{eq-eqb, ne-eqb}
-use mathlib.Core.Path.{sym}
+use mathlib.Core.Path.{sym, _∙_}
 use borrow.Author.Needs.{needs}
 use Rattle.allow.specs.Allows.{valueAllowed}
 use Rattle.allow.proofs.value_allowed.Statement.{statement}
@@ -12,8 +12,7 @@ returns c =
     let asked = c .before .before in
     simp (
       c .keeps-limit .ensures,
-      sym (asked .value-of .ensures),
-      eq-eqb _ _ (c .before .if2 .taken),
+      sym (asked .is-internal .ensures) ∙ c .before .if2 .taken,
       eq-eqb _ _ (asked .before .if1 .taken),
     )
 
@@ -21,7 +20,7 @@ returns-2 : tie.Need-returns-2
 unfolding valueAllowed
 returns-2 c =
     let asked = c .before in
-    simp (sym (asked .value-of .ensures), ne-eqb _ _ (c .if2 .left), eq-eqb _ _ (asked .before .if1 .taken))
+    simp (sym (asked .is-internal .ensures) ∙ c .if2 .left, eq-eqb _ _ (asked .before .if1 .taken))
 
 returns-3 : tie.Need-returns-3
 unfolding valueAllowed

@@ -1,38 +1,35 @@
 -- `event::measured` meets its contract. Assumes nothing.
 use Rattle.event.specs.Event.{measuredBy}
 use mathlib.Core.Path.{sym, _∙_}
-use borrow.Author.Tests.{eq-eqb, ne-eqb}
 use borrow.Author.Needs.{needs}
 use Rattle.event.proofs.measured.Statement.{statement}
 use Rattle.event.proofs.measured.Tie as tie
 
 returns : tie.Need-returns
 unfolding measuredBy
-returns c = rw (← c .before .value-of .ensures, eq-eqb _ _ (c .if1 .taken))
+returns c = rw (sym (c .before .is-internal .ensures) ∙ c .if1 .taken)
 
 returns-2 : tie.Need-returns-2
 unfolding measuredBy
 returns-2 c =
     let taken = c .before .before .before in
-    let asked = taken .before .before in
+    let mode = taken .before .before in
     simp (
       c .crossed .ensures,
       c .before .with-external .ensures,
       c .before .before .detection-now .ensures,
       sym (taken .before .takes-frequency .ensures) ∙ taken .if2 .taken,
-      sym (asked .before .value-of .ensures),
-      ne-eqb _ _ (asked .if1 .left),
+      sym (mode .before .is-internal .ensures) ∙ mode .if1 .left,
     )
 
 returns-3 : tie.Need-returns-3
 unfolding measuredBy
 returns-3 c =
-    let asked = c .before .before .before in
+    let mode = c .before .before .before in
     simp (
       c .with-lia .ensures,
       sym (c .before .before .takes-frequency .ensures) ∙ c .before .if2 .left,
-      sym (asked .before .value-of .ensures),
-      ne-eqb _ _ (asked .if1 .left),
+      sym (mode .before .is-internal .ensures) ∙ mode .if1 .left,
     )
 
 pub measured-spec : {M : Type 1} → statement M

@@ -5,16 +5,8 @@ use Rattle.settings.specs.Table.{behind}
 use Rattle.settings.proofs.behind.Statement.{statement}
 use Rattle.settings.proofs.behind.Tie as tie
 
-add-result : tie.Need-add-result
-add-result c = search needs
-
-returns : tie.Need-returns
-unfolding behind
-returns c = rw (lt-ltb _ _ (c .if1 .taken))
-
-returns-2 : tie.Need-returns-2
-unfolding behind
-returns-2 c = rw (le-ltb _ _ (c .if1 .left))
-
 pub behind-spec : {M : Type 1} → statement M
-behind-spec = tie.close (tie.spec add-result returns returns-2)
+unfolding behind
+behind-spec =
+    tie.close
+    (tie.spec (λ c. search needs) (λ c. rw (lt-ltb _ _ (c .if1 .taken))) (λ c. rw (le-ltb _ _ (c .if1 .left))))

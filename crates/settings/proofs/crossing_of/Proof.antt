@@ -3,6 +3,7 @@ use mathlib.Core.Path.{_≡_, refl, sym}
 use mathlib.Core.Bool.{Bool, true, false, not, _&&_, _||_, true≢false}
 use lib.Dec.{ltb}
 use borrow.Author.Needs.{needs}
+use Rattle.settings.specs.Limits.{longestAbove}
 use Rattle.settings.specs.Frequency.{crossingOf}
 use Rattle.settings.proofs.crossing_of.Statement.{statement}
 use Rattle.settings.proofs.crossing_of.Tie as tie
@@ -13,34 +14,27 @@ crossed true is long e = absurd (true≢false (sym e))
 crossed false true long e = refl
 crossed false false long e = absurd (true≢false (sym e))
 
-above-200-requires : tie.Need-above-200-requires
-above-200-requires c κs = search needs
-
-above-200-requires-2 : tie.Need-above-200-requires-2
-above-200-requires-2 c κs = search needs
-
-add-t10 : tie.Need-add-t10
-add-t10 c = search needs
-
 returns : tie.Need-returns
 unfolding crossingOf
 returns c =
     let was = c .before .before .above-200 in
     let is = c .before .above-2002 in
-    let long = ltb 13 (c .before .before .before .args .constant) in
+    let long = ltb longestAbove (c .before .before .before .args .constant) in
     simp (sym (was .ensures), sym (is .ensures), c .if1 .taken, crossed (was .result) (is .result) long (c .if1 .taken))
 
 returns-2 : tie.Need-returns-2
 unfolding crossingOf
 returns-2 c =
-    simp (sym (c .before .before .before .above-200 .ensures), sym (c .before .before .above-2002 .ensures), c .before .if1 .left, c .if2 .taken)
+    let is = c .before .before in
+    simp (sym (is .before .above-200 .ensures), sym (is .above-2002 .ensures), c .before .if1 .left, c .if2 .taken)
 
 returns-3 : tie.Need-returns-3
 unfolding crossingOf
 returns-3 c =
-    simp (sym (c .before .before .before .above-200 .ensures), sym (c .before .before .above-2002 .ensures), c .before .if1 .left, c .if2 .left)
+    let is = c .before .before in
+    simp (sym (is .before .above-200 .ensures), sym (is .above-2002 .ensures), c .before .if1 .left, c .if2 .left)
 
 pub crossing-of-spec : {M : Type 1} → statement M
 crossing-of-spec =
     tie.close
-    (tie.spec above-200-requires above-200-requires-2 add-t10 returns returns-2 returns-3)
+    (tie.spec (λ c κs. search needs) (λ c κs. search needs) (λ c. search needs) returns returns-2 returns-3)

@@ -4,6 +4,7 @@ use mathlib.Core.Path.{_≡_, refl, _∙_}
 use native.Mathlib.Omega.{arith}
 use borrow.Author.Needs.{needs}
 use lib.ListN.{getD}
+use Rattle.settings.specs.Table.{entries}
 use Rattle.settings.specs.Allowed.{every}
 use Rattle.settings.proofs.Parts.{inRange, range-more}
 use Rattle.settings.proofs.in_ranges.Statement.{statement}
@@ -11,44 +12,14 @@ use Rattle.settings.proofs.in_ranges.Tie as tie
 
 abbrev Inv-loop : tie.InvT-loop
 Inv-loop values least most inside₀ entry₀ inside entry =
-    (entry ≤ 34) × (inside ≡ every (λ e. inRange e (getD values e 0)) entry)
+    (entry ≤ entries) × (inside ≡ every (λ e. inRange e (getD values e 0)) entry)
 
 abbrev μ-loop : tie.MeasureT-loop
-μ-loop values least most inside₀ entry₀ inside entry = 34 - entry
-
-leasts-requires : tie.Need-leasts-requires Inv-loop μ-loop
-leasts-requires c κs = search needs
-
-mosts-requires : tie.Need-mosts-requires Inv-loop μ-loop
-mosts-requires c κs = search needs
+μ-loop values least most inside₀ entry₀ inside entry = entries - entry
 
 loop-holds : tie.Need-loop-holds Inv-loop μ-loop
 unfolding every
 loop-holds c = (omega arith, refl)
-
-mul-value : tie.Need-mul-value Inv-loop μ-loop
-mul-value c = search needs
-
-array-read-value : tie.Need-array-read-value Inv-loop μ-loop
-array-read-value c = search needs
-
-mul-inside : tie.Need-mul-inside Inv-loop μ-loop
-mul-inside c = search needs
-
-array-read-inside : tie.Need-array-read-inside Inv-loop μ-loop
-array-read-inside c = search needs
-
-mul-inside-2 : tie.Need-mul-inside-2 Inv-loop μ-loop
-mul-inside-2 c = search needs
-
-array-read-inside-2 : tie.Need-array-read-inside-2 Inv-loop μ-loop
-array-read-inside-2 c = search needs
-
-add-entry : tie.Need-add-entry Inv-loop μ-loop
-add-entry c = omega arith
-
-loop-less : tie.Need-loop-less Inv-loop μ-loop
-loop-less c = omega arith
 
 loop-again : tie.Need-loop-again Inv-loop μ-loop
 loop-again c =
@@ -61,24 +32,11 @@ loop-again c =
     )
 
 returns : tie.Need-returns Inv-loop μ-loop
-returns c = let e : c .before .loop .entry ≡ 34 = omega arith in c .before .loop .inv .1 ∙ rw e
+returns c = let e : c .before .loop .entry ≡ entries = omega arith in c .before .loop .inv .1 ∙ rw e
 
 pub in-ranges-spec : {M : Type 1} → statement M
 in-ranges-spec =
     tie.close
-    (tie.spec
-    Inv-loop
-    μ-loop
-    leasts-requires
-    mosts-requires
-    loop-holds
-    mul-value
-    array-read-value
-    mul-inside
-    array-read-inside
-    mul-inside-2
-    array-read-inside-2
-    add-entry
-    loop-less
-    loop-again
-    returns)
+    (tie.spec Inv-loop μ-loop (λ c κs. search needs) (λ c κs. search needs) loop-holds (λ c. search needs)
+    (λ c. search needs) (λ c. search needs) (λ c. search needs) (λ c. search needs) (λ c. search needs)
+    (λ c. omega arith) (λ c. omega arith) loop-again returns)

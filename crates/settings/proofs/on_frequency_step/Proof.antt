@@ -31,8 +31,7 @@ last-at value is = rw is (last value)
 pub on-frequency-step-spec : {M : Type 1} → statement M
 on-frequency-step-spec =
     tie.close
-    (tie.spec
-    (λ c κs. search needs)
+    (tie.spec (λ c κs. search needs)
     (λ c.
     let step = c .before in
     at _ 1 (step .frequency-step .ensures) (c .match .keys1) (rw (mod-one (step .before .args .value))))

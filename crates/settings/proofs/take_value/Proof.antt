@@ -4,18 +4,14 @@ use Rattle.settings.specs.Parts.{valueTaken}
 use Rattle.settings.proofs.take_value.Statement.{statement}
 use Rattle.settings.proofs.take_value.Tie as tie
 
-range-of-requires : tie.Need-range-of-requires
-range-of-requires c κs = search needs
-
-take-requires : tie.Need-take-requires
-take-requires c κs = search needs
-
-turned-at-requires : tie.Need-turned-at-requires
-turned-at-requires c κs = search needs
-
 returns : tie.Need-returns
 unfolding valueTaken
-returns c = rw (← c .before .before .range-of .ensures, ← c .before .take .ensures) (c .turned-at .ensures)
+returns c =
+    let range = c .before .before in
+    rw (← range .before .row-of .ensures, ← range .range-of .ensures, ← c .before .take .ensures)
+    (c .turned-at .ensures)
 
 pub take-value-spec : {M : Type 1} → statement M
-take-value-spec = tie.close (tie.spec range-of-requires take-requires turned-at-requires returns)
+take-value-spec =
+    tie.close
+    (tie.spec (λ c κs. search needs) (λ c κs. search needs) (λ c κs. search needs) (λ c κs. search needs) returns)

@@ -5,19 +5,9 @@ use Rattle.settings.specs.Table.{turnedOf}
 use Rattle.settings.proofs.turned.Statement.{statement}
 use Rattle.settings.proofs.turned.Tie as tie
 
-returns : tie.Need-returns
-unfolding turnedOf
-returns c = refl
-
 pub turned-spec : {M : Type 1} → statement M
+unfolding turnedOf
 turned-spec =
     tie.close
-    (tie.spec
-    (λ c. search needs)
-    (λ c. search needs)
-    (λ c. search needs)
-    (λ c. search needs)
-    (λ c. search needs)
-    (λ c. search needs)
-    (λ c. search needs)
-    returns)
+    (tie.spec (λ c. search needs) (λ c. search needs) (λ c. search needs) (λ c. search needs) (λ c. search needs)
+    (λ c. search needs) (λ c. search needs) (λ c. refl))

@@ -4,11 +4,5 @@ use borrow.Author.Needs.{needs}
 use Rattle.settings.proofs.within_limit.Statement.{statement}
 use Rattle.settings.proofs.within_limit.Tie as tie
 
-cast-result : tie.Need-cast-result
-cast-result c = search needs
-
-returns : tie.Need-returns
-returns c = refl
-
 pub within-limit-spec : {M : Type 1} → statement M
-within-limit-spec = tie.close (tie.spec cast-result returns)
+within-limit-spec = tie.close (tie.spec (λ c. search needs) (λ c. refl))

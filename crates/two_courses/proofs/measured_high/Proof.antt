@@ -1,6 +1,5 @@
 -- `two_courses::measured_high` meets its contract. Assumes nothing.
-use borrow.Author.Tests.{eq-eqb, ne-eqb}
-use mathlib.Core.Path.{sym}
+use mathlib.Core.Path.{sym, _∙_}
 use borrow.Author.Needs.{needs}
 use Rattle.two_courses.specs.Courses.{measuredHigh}
 use Rattle.two_courses.proofs.measured_high.Statement.{statement}
@@ -12,14 +11,9 @@ measured-high-spec =
     tie.close
     (tie.spec
     (λ c κs. search needs)
-    (λ c. rw (sym (c .before .value-of .ensures), eq-eqb _ _ (c .if1 .taken)))
+    (λ c. rw (sym (c .before .is-internal .ensures) ∙ c .if1 .taken))
     (λ c κs. search needs)
     (λ c κs. search needs)
     (λ c.
-    let other = c .before .before in
-    rw (
-      c .highest .ensures,
-      c .before .value-of2 .ensures,
-      sym (other .before .value-of .ensures),
-      ne-eqb _ _ (other .if1 .left),
-    )))
+    let mode = c .before .before in
+    rw (c .highest .ensures, c .before .value-of .ensures, sym (mode .before .is-internal .ensures) ∙ mode .if1 .left)))

@@ -4,9 +4,6 @@ use Rattle.settings.specs.Table.{table, startSettings}
 use Rattle.settings.proofs.Settings.start.Statement.{statement}
 use Rattle.settings.proofs.Settings.start.Tie as tie
 
-returns : tie.Need-returns
-unfolding table startSettings
-returns c = refl
-
 pub start-spec : {M : Type 1} → statement M
-start-spec = tie.close (tie.spec returns)
+unfolding table startSettings
+start-spec = tie.close (tie.spec (λ c. refl))

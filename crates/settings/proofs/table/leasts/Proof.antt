@@ -4,9 +4,6 @@ use Rattle.settings.specs.Table.{table}
 use Rattle.settings.proofs.table.leasts.Statement.{statement}
 use Rattle.settings.proofs.table.leasts.Tie as tie
 
-returns : tie.Need-returns
-unfolding table
-returns c = refl
-
 pub leasts-spec : {M : Type 1} → statement M
-leasts-spec = tie.close (tie.spec returns)
+unfolding table
+leasts-spec = tie.close (tie.spec (λ c. refl))

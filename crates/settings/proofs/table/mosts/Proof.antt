@@ -4,9 +4,6 @@ use Rattle.settings.specs.Table.{table}
 use Rattle.settings.proofs.table.mosts.Statement.{statement}
 use Rattle.settings.proofs.table.mosts.Tie as tie
 
-returns : tie.Need-returns
-unfolding table
-returns c = refl
-
 pub mosts-spec : {M : Type 1} → statement M
-mosts-spec = tie.close (tie.spec returns)
+unfolding table
+mosts-spec = tie.close (tie.spec (λ c. refl))
