@@ -25,8 +25,8 @@ use Rattle.event.proofs.Crossed.{sound, stands-now, sound-allowed, cros
 
 -- what stays
 pub record Stays (e : Event) (s : State) (one two : List ℕ) : Type 0 where
-  pub allowed : allowedState s ≡ true → allowedState (eventOf e s one two .state) ≡ true
-  pub unit : eventOf e s one two .state .unit ≡ s .unit
+  pub allowed : allowedState s ≡ true → allowedState (eventOf e s one two .after) ≡ true
+  pub unit : eventOf e s one two .after .unit ≡ s .unit
   pub first : length (eventOf e s one two .one) ≡ length one
   pub second : length (eventOf e s one two .two) ≡ length two
 
@@ -145,7 +145,7 @@ module _ (s : State) (h : allowedState s ≡ true) where
       by true = refl
       by false = refl
 
-pub event-stays : (e : Event) (s : State) (one two : List ℕ) → allowedState s ≡ true → allowedState (eventOf e s one two .state) ≡ true
+pub event-stays : (e : Event) (s : State) (one two : List ℕ) → allowedState s ≡ true → allowedState (eventOf e s one two .after) ≡ true
 unfolding eventOf sampledIn
 event-stays (Latest w v) s one two h = pair-stays s h w v
 event-stays Tick s one two h = tick-stays s h
@@ -164,7 +164,7 @@ unit-measured true t a b s p q = refl
 unit-measured false true a b s p q = p
 unit-measured false false a b s p q = q
 
-pub event-unit : (e : Event) (s : State) (one two : List ℕ) → eventOf e s one two .state .unit ≡ s .unit
+pub event-unit : (e : Event) (s : State) (one two : List ℕ) → eventOf e s one two .after .unit ≡ s .unit
 unfolding eventOf pairTaken withLatest bitsRaised measuredBy withExternal crossedFrom sampledIn sampledBy
 event-unit (Latest w v) s one two = unit-either (legalPair w v) (withLatest w v s) s refl
 event-unit Tick s one two = refl

@@ -16,7 +16,8 @@ same-length c = search needs
 
 returns : tie.Need-returns
 unfolding queryReply
-returns c = rw (c .before .before .before .before .before .q .given .1) (c .before .before .send-trace .ensures)
+returns c =
+    rw (c .before .before .before .before .before .q .given .1) (c .before .before .send-trace .ensures)
 
 send-text-requires : tie.Need-send-text-requires
 send-text-requires c κs = search needs
@@ -26,8 +27,10 @@ same-length-2 c = search needs
 
 returns-2 : tie.Need-returns-2
 returns-2 c =
-    let a = c .before .before .before .before .before .before .before .before .args in
-    rw (text-replied (a .q) (a .s) (a .waiting) (a .one .now) (a .two .now) (c .before .before .before .before .match .keys2)) (c .before .before .send-text .ensures)
+    let other = c .before .before .before .before in
+    let a = other .before .before .before .before .args in
+    rw (text-replied (a .q) (a .s) (a .waiting) (a .one .now) (a .two .now) (other .match .keys2))
+    (c .before .before .send-text .ensures)
 
 pub send-query-spec : {M : Type 1} → statement M
 send-query-spec =

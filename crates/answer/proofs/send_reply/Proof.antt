@@ -1,6 +1,6 @@
 -- `answer::send_reply` meets its contract: a query is replied, nothing else is. Assumes nothing.
 use Rattle.answer.specs.Reply.{replyOf}
-use Rattle.answer.proofs.Sends.{none-replied, told-none}
+use Rattle.answer.proofs.Sends.{none-replied, none-sent}
 use borrow.Author.Needs.{needs}
 use Rattle.answer.proofs.send_reply.Statement.{statement}
 use Rattle.answer.proofs.send_reply.Tie as tie
@@ -14,7 +14,8 @@ nothing-requires c κs = search needs
 returns : tie.Need-returns
 returns c =
     let a = c .before .before .before .before .before .args in
-    rw (none-replied (a .kind) (a .s) (a .waiting) (a .one .now) (a .two .now) (c .before .match .keys2)) (told-none (a .out .now) (c .nothing .ensures))
+    rw (none-replied (a .kind) (a .s) (a .waiting) (a .one .now) (a .two .now) (c .before .match .keys2))
+    (none-sent (a .out .now) (c .nothing .ensures))
 
 send-query-requires : tie.Need-send-query-requires
 send-query-requires c κs = search needs
@@ -24,7 +25,8 @@ same-length c = search needs
 
 returns-2 : tie.Need-returns-2
 unfolding replyOf
-returns-2 c = rw (c .before .before .before .before .before .kind .given .1) (c .before .before .send-query .ensures)
+returns-2 c =
+    rw (c .before .before .before .before .before .kind .given .1) (c .before .before .send-query .ensures)
 
 pub send-reply-spec : {M : Type 1} → statement M
 send-reply-spec =

@@ -21,9 +21,12 @@ same-length c = search needs
 
 returns : tie.Need-returns
 returns c =
-    let a = c .before .before .before .before .before .before .before .before .args in
-    let e = says-ended (a .q) (a .s) (a .waiting) _ _ _ (c .before .before .before .before .before .before .text-of .ensures) (c .before .before .before .before .before .end-of .ensures) (c .before .before .before .before .push .ensures) in
-    rw (← e) (c .before .before .send .ensures)
+    let pushed = c .before .before .before .before in
+    let end = pushed .before in
+    let text = end .before in
+    let a = text .before .before .args in
+    rw (← says-ended (a .q) (a .s) (a .waiting) _ _ _ (text .text-of .ensures) (end .end-of .ensures)
+    (pushed .push .ensures)) (c .before .before .send .ensures)
 
 pub send-text-spec : {M : Type 1} → statement M
 send-text-spec =

@@ -1,4 +1,5 @@
--- `answer::send_trace` meets its contract: the points of the trace that is named, from the place of the bin on. Assumes nothing.
+-- `answer::send_trace` meets its contract: the points of the trace that is named, from the place of the bin on. Assumes
+-- nothing.
 use borrow.Author.Tests.{eq-eqb, ne-eqb}
 use Rattle.answer.specs.Reply.{traceReply}
 use borrow.Author.Needs.{needs}
@@ -16,7 +17,9 @@ same-length c = search needs
 
 returns : tie.Need-returns
 unfolding traceReply
-returns c = rw (eq-eqb _ _ (c .before .before .before .before .if1 .taken), ← c .before .before .before .before .before .place-of .ensures) (c .before .before .send-points .ensures)
+returns c =
+    let first = c .before .before .before .before in
+    rw (eq-eqb _ _ (first .if1 .taken), ← first .before .place-of .ensures) (c .before .before .send-points .ensures)
 
 send-points-requires-2 : tie.Need-send-points-requires-2
 send-points-requires-2 c κs = search needs
@@ -26,7 +29,9 @@ same-length-2 c = search needs
 
 returns-2 : tie.Need-returns-2
 unfolding traceReply
-returns-2 c = rw (ne-eqb _ _ (c .before .before .before .before .if1 .left), ← c .before .before .before .before .before .place-of .ensures) (c .before .before .send-points2 .ensures)
+returns-2 c =
+    let second = c .before .before .before .before in
+    rw (ne-eqb _ _ (second .if1 .left), ← second .before .place-of .ensures) (c .before .before .send-points2 .ensures)
 
 pub send-trace-spec : {M : Type 1} → statement M
 send-trace-spec =

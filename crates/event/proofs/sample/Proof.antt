@@ -1,6 +1,8 @@
 -- `event::sample` meets its contract. Assumes nothing.
 use Rattle.event.specs.Event.{sampledIn}
-use mathlib.Core.Path.{refl}
+use mathlib.Core.Path.{sym}
+use mathlib.Core.List.{[]}
+use Rattle.reply.proofs.Over.{over-none}
 use borrow.Author.Needs.{needs}
 use Rattle.event.proofs.sample.Statement.{statement}
 use Rattle.event.proofs.sample.Tie as tie
@@ -19,7 +21,9 @@ same-length-2 c = search needs
 
 returns : tie.Need-returns
 unfolding sampledIn
-returns c = record { state = c .sampled .ensures; outcome = refl; first = c .before .before .before .before .before .store .ensures .0; second = c .before .before .before .before .before .store .ensures .1 }
+returns c =
+    let stored = c .before .before .before .before .before .store .ensures in
+    record { result = rw (c .sampled .ensures); first = stored .0; second = stored .1; reply = sym (over-none []) }
 
 pub sample-spec : {M : Type 1} → statement M
 sample-spec =

@@ -17,7 +17,9 @@ part-run-start : tie.Need-part-run-start
 part-run-start c = search needs
 
 part-run-end : tie.Need-part-run-end
-part-run-end c = let h : length (c .before .before .clean .result .bytes) ≡ 256 = search needs in omega (arith, c .before .before .clean .ensures .1)
+part-run-end c =
+    let h : length (c .before .before .clean .result .bytes) ≡ 256 = search needs in
+    omega (arith, c .before .before .clean .ensures .1)
 
 run-requires : tie.Need-run-requires
 run-requires c κs = search needs

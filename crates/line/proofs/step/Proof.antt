@@ -20,7 +20,15 @@ take-command-requires : tie.Need-take-command-requires
 take-command-requires c κs = search needs
 
 after-requires : tie.Need-after-requires
-after-requires c κs = let k = c .before .before .before .before .before .before .before .before .before .before .before .before .before .before .before in let p = c .before .before .before .before .before .before .take-command in (part-fits (k .args .reply .now) (k .args .p .at) (k .pre .0) (p .last .1 .1 .1 .1 .1 .0) (p .result .written) (p .ensures .1) (p .kept .1 .1 .1 .1 .1 .0) (k .good .1 .1 .1 .1 .0 .1), k .pre .1)
+after-requires c κs =
+    let taken = c .before .before .before .before .before .before in
+    let t = taken .take-command in
+    let start = taken .before .before .before .before .before .before .before .before .before in
+    let a = start .args in (
+      part-fits (a .reply .now) (a .p .at) (start .pre .0) (t .last .1 .1 .1 .1 .1 .0) (t .result .written)
+          (t .ensures .1) (t .kept .1 .1 .1 .1 .1 .0) (start .good .1 .1 .1 .1 .0 .1),
+      start .pre .1,
+    )
 
 same-length : tie.Need-same-length
 same-length c = search needs
@@ -32,10 +40,20 @@ same-length-3 : tie.Need-same-length-3
 same-length-3 c = search needs
 
 returns : tie.Need-returns
-returns c = let a = c .before .before .before .before .before .before .before .before .before .before .before .before .before .before .before .before .args in let t = c .before .before .before .before .before .before .before .take-command in
+returns c =
+    let taken = c .before .before .before .before .before .before .before in
+    let t = taken .take-command in
+    let start = taken .before .before .before .before .before .before .before .before .before in
+    let a = start .args in
+    let new = t .last .1 .1 .1 .1 .1 .0 in
     let g : c .after .result .at ≡ a .p .at + t .result .written = ap (λ r. r .at) (c .after .ensures) in (
-      step-holds (a .p) (c .after .result) (a .text .now) (a .one .now) (a .two .now) _ _ (a .reply .now) _ (t .result) (c .before .before .before .before .before .before .before .before .before .before .before .before .before .before .before .before .pre .0) (t .ensures .0) (c .after .ensures),
-      (omega arith, rw g (mended-fits (a .reply .now) (a .p .at) (c .before .before .before .before .before .before .before .before .before .before .before .before .before .before .before .before .pre .0) (t .last .1 .1 .1 .1 .1 .0) (t .result .written) (t .ensures .1)), ap (λ r. r .count) (c .after .ensures)),
+      step-holds (a .p) (c .after .result) (a .text .now) (a .one .now) (a .two .now) _ _ (a .reply .now) new (t .result)
+          (start .pre .0) (t .ensures .0) (c .after .ensures),
+      (
+        omega arith,
+        rw g (mended-fits (a .reply .now) (a .p .at) (start .pre .0) new (t .result .written) (t .ensures .1)),
+        ap (λ r. r .count) (c .after .ensures),
+      ),
     )
 
 pub step-spec : {M : Type 1} → statement M

@@ -3,7 +3,8 @@ use mathlib.Core.Path.{sym}
 use native.Mathlib.Omega.{arith}
 use borrow.Author.Needs.{needs}
 use Rattle.line.specs.Perform.{commandOf}
-use Rattle.line.proofs.Effects.{nothing-does, refused-does}
+use Rattle.line.specs.Parts.{performedOf}
+use Rattle.reply.proofs.After.{silent-meets}
 use Rattle.line.proofs.take_command.Statement.{statement}
 use Rattle.line.proofs.take_command.Tie as tie
 
@@ -27,11 +28,15 @@ perform-requires c κs = search needs
 
 returns : tie.Need-returns
 unfolding commandOf
-returns c = rw (sym (c .before .before .parse .ensures), c .enum-told .given .1) (nothing-does _ _ _ _, omega arith)
+returns c =
+    rw (sym (c .before .before .parse .ensures), c .enum-told .given .1)
+    (silent-meets performedOf _ _ _ _ _, omega arith)
 
 returns-2 : tie.Need-returns-2
 unfolding commandOf
-returns-2 c = rw (c .refused .ensures, sym (c .before .before .before .before .parse .ensures), c .before .before .parsed .given .1) (refused-does _ _ _ _ _, omega arith)
+returns-2 c =
+    rw (c .refused .ensures, sym (c .before .before .before .before .parse .ensures), c .before .before .parsed .given .1)
+    (silent-meets performedOf _ _ _ _ _, omega arith)
 
 same-length : tie.Need-same-length
 same-length c = search needs
@@ -44,7 +49,10 @@ same-length-3 c = search needs
 
 returns-3 : tie.Need-returns-3
 unfolding commandOf
-returns-3 c = rw (sym (c .before .before .before .before .before .before .before .before .before .before .before .before .before .parse .ensures), c .before .before .before .before .before .before .before .before .before .before .before .parsed2 .given .1) (c .before .before .before .before .before .before .perform .ensures)
+returns-3 c =
+    let done = c .before .before .before .before .before .before in
+    let taken = done .before .before .before .before .before in
+    rw (sym (taken .before .before .parse .ensures), taken .parsed2 .given .1) (done .perform .ensures)
 
 pub take-command-spec : {M : Type 1} → statement M
 take-command-spec =
