@@ -110,7 +110,7 @@ module _ (capacity : ℕ) (x : Settings) (lo hi : Moving) (ready : Ready x hi) (
   with-storage t l r =
       record { kept = k .between .kept; limit = k .between .limit; external = k .between .external; low = l; high = r }
 
-  tick-within : (one two : List ℕ) → Within capacity x lo hi (eventOf Tick s one two .state)
+  tick-within : (one two : List ℕ) → Within capacity x lo hi (eventOf Tick s one two .after)
   unfolding eventOf sampledIn sampledBy tickOf
   tick-within one two =
       let by = samplingOf (s .settings) in
@@ -128,7 +128,7 @@ module _ (capacity : ℕ) (x : Settings) (lo hi : Moving) (ready : Ready x hi) (
   readied-other true b e = absurd (false≢true (sym (b refl) ∙ e))
   readied-other false b e = k .between .high e
 
-  trigger-within : (one two : List ℕ) → Within capacity x lo hi (eventOf Trigger s one two .state)
+  trigger-within : (one two : List ℕ) → Within capacity x lo hi (eventOf Trigger s one two .after)
   unfolding eventOf sampledIn sampledBy triggerOf
   trigger-within one two =
       let by = samplingOf x in
@@ -172,7 +172,7 @@ module _ (capacity : ℕ) (x : Settings) (lo hi : Moving) (ready : Ready x hi) (
   quiet-within true t w = w
   quiet-within false t w = k
 
-  pub event-within : (e : Event) (one two : List ℕ) → Within capacity x lo hi (eventOf e s one two .state)
+  pub event-within : (e : Event) (one two : List ℕ) → Within capacity x lo hi (eventOf e s one two .after)
   event-within (Latest w v) one two =
       unfold eventOf pairTaken withLatest in quiet-within (legalPair w v) _ (record { same = k .same; alike = k .alike; between = k .between })
   event-within Tick one two = tick-within one two

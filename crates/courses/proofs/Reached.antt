@@ -60,7 +60,7 @@ module _ (capacity : ℕ) (b : Both) (l : List ℕ) where
 
   abbrev Refuses : Side → Refusal → ℕ → Type 0
   Refuses d r p =
-      (w : World) → Open w → At d capacity b (w .core .state) → (room : ℕ) → crowded room l w ≡ false → lineIn room l w .told .answer ≡ Refused r p
+      (w : World) → Open w → At d capacity b (w .core .state) → (room : ℕ) → crowded room l w ≡ false → lineIn room l w .report .answer ≡ Refused r p
 
   line-at : (d : Side) → lineAnswer capacity l b ≡ Passed → Kept d
   unfolding lineAnswer lineOf
@@ -70,7 +70,7 @@ module _ (capacity : ℕ) (b : Both) (l : List ℕ) where
     by true e f w o i room c = not-passed LongScriptLine 0 f
     by false e f w o i room c =
         let s = line-short w o room l e in
-        let n : lineOf room l (w .core .state) (w .one) (w .two) .dropped ≡ false = sym (s .2) ∙ c in
+        let n : lineOf room l (w .core .state) (w .one) (w .two) .report .dropped ≡ false = sym (s .2) ∙ c in
         rw (s .1) (at-run d capacity room (textsOf l) (startLine (w .core .state) (w .one) (w .two)) b 1 i n f)
 
   line-refuses : (r : Refusal) (p : ℕ) → lineAnswer capacity l b ≡ Refused r p → r ≢ NoReset → r ≢ LongScriptLine
@@ -85,7 +85,7 @@ module _ (capacity : ℕ) (b : Both) (l : List ℕ) where
           k .0,
           λ w o i room c.
               let s = line-short w o room l e in
-              let n : lineOf room l (w .core .state) (w .one) (w .two) .dropped ≡ false = sym (s .2) ∙ c in
+              let n : lineOf room l (w .core .state) (w .one) (w .two) .report .dropped ≡ false = sym (s .2) ∙ c in
               s .0 ∙ ((k .1) room (startLine (w .core .state) (w .one) (w .two)) refl refl i n),
         )
 

@@ -230,13 +230,13 @@ marked-sized r s k =
     }
 
 -- a trigger, and a measured frequency
-pub trigger-sized : (s : State) (one two : List ℕ) → Sized s → Sized (eventOf event.Trigger s one two .state)
+pub trigger-sized : (s : State) (one two : List ℕ) → Sized s → Sized (eventOf event.Trigger s one two .after)
 unfolding eventOf sampledIn sampledBy
 trigger-sized s one two k =
     record { full = k .full; registers = trigger-fits s (k .registers); enables = k .enables }
 
 pub measured-sized : (f : ℕ) (s : State) (one two : List ℕ) → Sized s
-    → Sized (eventOf (event.Measured f) s one two .state)
+    → Sized (eventOf (event.Measured f) s one two .after)
 unfolding eventOf measuredBy
 measured-sized f s one two k = by (eqb (valueOf (s .settings) fmod) 1) (takesFrequency s f) where
   taken : State

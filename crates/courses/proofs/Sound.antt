@@ -18,7 +18,7 @@ use Rattle.line.specs.Line.{startLine, lineOf}
 use Rattle.clean.specs.Texts.{textsOf}
 use Rattle.refusal.specs.declared.Answer.the-variants.{Passed, Refused}
 use Rattle.module.specs.Module.{allowedModule, guardOf}
-use Rattle.lockin.specs.Calls.{guarded, wholeLine, lineCall, guardedEvent, eventCall}
+use Rattle.lockin.specs.Calls.{guarded, lineEnd, wholeEnd, wholeLine, lineCall, eventCall}
 use Rattle.two_courses.specs.Courses.{gapOf}
 use Rattle.two_courses.specs.declared.Both.{Both}
 use Rattle.script.specs.Check.{textsAnswer, textsAfter, tooLong}
@@ -51,18 +51,18 @@ module _ (w : World) (o : Open w) where
   event-open e = stays-allowed .event e (w .core) (w .one) (w .two) .next o
 
   -- then an event is taken, and a line runs or is too long
-  pub event-is : (e : Event) → afterEvent e w .core .state ≡ eventOf e (w .core .state) (w .one) (w .two) .state
-  unfolding afterEvent eventCall guardedEvent
+  pub event-is : (e : Event) → afterEvent e w .core .state ≡ eventOf e (w .core .state) (w .one) (w .two) .after
+  unfolding afterEvent eventCall guarded
   event-is e = rw o refl
 
   pub line-short : (room : ℕ) (l : List ℕ) → tooLong l ≡ false →
       let ran = lineOf room l (w .core .state) (w .one) (w .two) in
-      (lineIn room l w .told .answer ≡ ran .answer) × (afterLine room l w .core .state ≡ ran .state) × (crowded room l w ≡ ran .dropped)
-  unfolding afterLine lineCall guarded wholeLine crowded
+      (lineIn room l w .report .answer ≡ ran .report .answer) × (afterLine room l w .core .state ≡ ran .after) × (crowded room l w ≡ ran .report .dropped)
+  unfolding afterLine lineCall guarded wholeLine wholeEnd lineEnd crowded
   line-short room l e = rw (o, le-leb (length l) 256 (ltb-false 256 (length l) e)) (refl, refl, refl)
 
-  pub line-long : (room : ℕ) (l : List ℕ) → tooLong l ≡ true → lineIn room l w .told .answer ≡ Refused LongLine 0
-  unfolding lineCall guarded wholeLine
+  pub line-long : (room : ℕ) (l : List ℕ) → tooLong l ≡ true → lineIn room l w .report .answer ≡ Refused LongLine 0
+  unfolding lineCall guarded wholeLine wholeEnd lineEnd
   line-long room l e = rw (o, lt-leb (length l) 256 (ltb-true 256 (length l) e)) refl
 
 pub events-open : (es : List Event) (w : World) → Open w → Open (afterEvents es w)
@@ -103,28 +103,28 @@ sim-gap capacity b es w o i =
 
 module _ (capacity : ℕ) (b : Both) (w : World) (o : Open w) (i : Sim capacity b (w .core .state)) (room : ℕ) (l : List ℕ) (c : crowded room l w ≡ false) where
   line-passed : lineAnswer capacity l b ≡ Passed
-      → (lineIn room l w .told .answer ≡ Passed) × Sim capacity (textsAfter capacity (textsOf l) b) (afterLine room l w .core .state)
+      → (lineIn room l w .report .answer ≡ Passed) × Sim capacity (textsAfter capacity (textsOf l) b) (afterLine room l w .core .state)
   unfolding lineAnswer lineOf
   line-passed = by (tooLong l) refl where
     by : (t : Bool) → tooLong l ≡ t → cond t (Refused LongScriptLine 0) (textsAnswer capacity 1 (textsOf l) b) ≡ Passed
-        → (lineIn room l w .told .answer ≡ Passed) × Sim capacity (textsAfter capacity (textsOf l) b) (afterLine room l w .core .state)
+        → (lineIn room l w .report .answer ≡ Passed) × Sim capacity (textsAfter capacity (textsOf l) b) (afterLine room l w .core .state)
     by true e f = not-passed LongScriptLine 0 f
     by false e f =
         let s = line-short w o room l e in
-        let d : lineOf room l (w .core .state) (w .one) (w .two) .dropped ≡ false = sym (s .2) ∙ c in
+        let d : lineOf room l (w .core .state) (w .one) (w .two) .report .dropped ≡ false = sym (s .2) ∙ c in
         let k = run-passed capacity room (textsOf l) (startLine (w .core .state) (w .one) (w .two)) b i refl d f in
         rw (s .0, s .1) k
 
-  line-earlier : (r s : Refusal) (p q : ℕ) → lineAnswer capacity l b ≡ Refused r p → lineIn room l w .told .answer ≡ Refused s q → p ≤ q
+  line-earlier : (r s : Refusal) (p q : ℕ) → lineAnswer capacity l b ≡ Refused r p → lineIn room l w .report .answer ≡ Refused s q → p ≤ q
   unfolding lineAnswer lineOf
   line-earlier r s p q = by (tooLong l) refl where
     by : (t : Bool) → tooLong l ≡ t → cond t (Refused LongScriptLine 0) (textsAnswer capacity 1 (textsOf l) b) ≡ Refused r p
-        → lineIn room l w .told .answer ≡ Refused s q → p ≤ q
+        → lineIn room l w .report .answer ≡ Refused s q → p ≤ q
     by true e f g = let z : 0 ≡ p = cc in omega arith
     by false e f g =
         let h = line-short w o room l e in
-        let d : lineOf room l (w .core .state) (w .one) (w .two) .dropped ≡ false = sym (h .2) ∙ c in
-        let a : lineOf room l (w .core .state) (w .one) (w .two) .answer ≡ Refused s q = sym (h .0) ∙ g in
+        let d : lineOf room l (w .core .state) (w .one) (w .two) .report .dropped ≡ false = sym (h .2) ∙ c in
+        let a : lineOf room l (w .core .state) (w .one) (w .two) .report .answer ≡ Refused s q = sym (h .0) ∙ g in
         run-earlier capacity room (textsOf l) (startLine (w .core .state) (w .one) (w .two)) b r s p q i refl d f a
 
 -- ---- scripts
@@ -143,11 +143,11 @@ module _ (capacity : ℕ) (b : Both) (w : World) (o : Open w) (i : Sim capacity 
     open-after = line-open (before g w) open-before (g .room) l
 
     next-passed : lineAnswer capacity l (gapOf capacity b) ≡ Passed
-        → (lineIn (g .room) l (before g w) .told .answer ≡ Passed) × Sim capacity (found.afterLine capacity l b) (after g l w .core .state)
+        → (lineIn (g .room) l (before g w) .report .answer ≡ Passed) × Sim capacity (found.afterLine capacity l b) (after g l w .core .state)
     next-passed = line-passed capacity (gapOf capacity b) (before g w) open-before sim-before (g .room) l c
 
     next-earlier : (r s : Refusal) (p q : ℕ) → lineAnswer capacity l (gapOf capacity b) ≡ Refused r p
-        → lineIn (g .room) l (before g w) .told .answer ≡ Refused s q → p ≤ q
+        → lineIn (g .room) l (before g w) .report .answer ≡ Refused s q → p ≤ q
     next-earlier = line-earlier capacity (gapOf capacity b) (before g w) open-before sim-before (g .room) l c
 
 pub script-fine : (capacity : ℕ) (ls : List (List ℕ)) (b : Both) (w : World) (g : Gaps ls) → Open w → Sim capacity b (w .core .state) → Roomy ls g w

@@ -27,8 +27,8 @@ returns c =
     let done = c .before .before .before .before .before .before .before .before in
     let start = done .before .before .before .before .before .before .before .before in
     let ran = rw (all-cleaned (start .args .text .now) (start .pre)) at (done .run-line .ensures) in
-    rw (c .before .length-told .ensures, ran .told)
-    (record { state = refl; told = refl; first = ran .first; second = ran .second; reply = ran .reply })
+    rw (c .before .length-told .ensures, ran .result)
+    (record { result = refl; first = ran .first; second = ran .second; reply = ran .reply })
 
 pub run-spec : {M : Type 1} → statement M
 run-spec =

@@ -1,7 +1,7 @@
--- `module::refused_start` meets its contract. Assumes nothing.
+-- `lockin::refused_start` meets its contract. Assumes nothing.
 use borrow.Author.Needs.{needs}
-use Rattle.module.proofs.refused_start.Statement.{statement}
-use Rattle.module.proofs.refused_start.Tie as tie
+use Rattle.lockin.proofs.refused_start.Statement.{statement}
+use Rattle.lockin.proofs.refused_start.Tie as tie
 
 fresh-requires : tie.Need-fresh-requires
 fresh-requires c κs = search needs
