@@ -243,7 +243,8 @@ run-fits room [] l a k e h = (e, k)
 run-fits room (t ∷ ts) l a k e h =
     let g = step-fits room t l a k (omega arith) in
     let next = stepOf room t l in
-    cond-rest (next .report .dropped) next (runAll room ts next) (λ (x : Line). (x .report .dropped ≡ false) × Sized (x .after))
+    cond-rest (next .report .dropped) next (runAll room ts next)
+    (λ (x : Line). (x .report .dropped ≡ false) × Sized (x .after))
     (g .kept) (run-fits room ts next (g .allowed) (g .sized) (g .kept) (omega (arith, g .short)))
 
 -- a line of at most 256 bytes has at most 257 commands: room for that many of the longest replies

@@ -179,7 +179,8 @@ byte-refused room b mark m one two refusal =
     let fed = queue.fedOf (m .queue) port b mark in
     let q = emptiedAt (m .queue) (queue.isMarked port mark) in
     guarded-refuses m one two refusal q (fedByte room b mark m one two)
-    (end-refuses m one two refusal q (fed .ended) room (queue.waitingBytes (fed .queue)) (afterRun (fed .ended) (fed .queue))
+    (end-refuses m one two refusal q (fed .ended) room (queue.waitingBytes (fed .queue))
+    (afterRun (fed .ended) (fed .queue))
     (run-long (fed .ended) (fed .queue) q (fed-long (m .queue) port b mark)))
 
 -- ---- the calls that run a line

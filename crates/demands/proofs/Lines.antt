@@ -88,7 +88,8 @@ module _ (room : ℕ) where
         by : (next : Line) (d : Bool) → next .report .dropped ≡ d →
             (next .report .dropped ≡ false →
             runAll room (ts ++ us) next
-            ≡ cond (runAll room ts next .report .dropped) (runAll room ts next) (runAll room us (runAll room ts next))) →
+            ≡ cond (runAll room ts next .report .dropped) (runAll room ts next)
+            (runAll room us (runAll room ts next))) →
             let r = cond d next (runAll room ts next) in
             cond d next (runAll room (ts ++ us) next) ≡ cond (r .report .dropped) r (runAll room us r)
         by next true e ih = rw e refl
@@ -141,7 +142,8 @@ module _ (room : ℕ) where
   first-passed Passed (outcome.Refused r) n e d = let z : _≡_ {A = ℕ} 0 1 = cc in omega arith
   first-passed (Refused r place) o n e d = let z : _≡_ {A = ℕ} 0 1 = cc in omega arith
 
-  step-passed : (t : List ℕ) (l : Line) → stepOf room t l .report .answer ≡ Passed → stepOf room t l .report .dropped ≡ true → ⊥
+  step-passed : (t : List ℕ) (l : Line) → stepOf room t l .report .answer ≡ Passed →
+      stepOf room t l .report .dropped ≡ true → ⊥
   unfolding stepOf afterOf
   step-passed t l e d = first-passed (l .report .answer) _ (l .report .count + 1) e d
 
@@ -161,10 +163,13 @@ module _ (room : ℕ) where
       by (stepOf room t l) (stepOf room t l .report .dropped) refl (step-passed t l) (step-count t l)
       (run-whole ts (stepOf room t l))
     where
-      by : (next : Line) (d : Bool) → next .report .dropped ≡ d → (next .report .answer ≡ Passed → next .report .dropped ≡ true → ⊥) →
+      by : (next : Line) (d : Bool) → next .report .dropped ≡ d →
+          (next .report .answer ≡ Passed → next .report .dropped ≡ true → ⊥) →
           next .report .count ≡ l .report .count + 1 →
-          (next .report .dropped ≡ false → runAll room ts next .report .answer ≡ Passed → Whole ts next (runAll room ts next)) →
-          cond d next (runAll room ts next) .report .answer ≡ Passed → Whole (t ∷ ts) l (cond d next (runAll room ts next))
+          (next .report .dropped ≡ false → runAll room ts next .report .answer ≡ Passed →
+          Whole ts next (runAll room ts next)) →
+          cond d next (runAll room ts next) .report .answer ≡ Passed →
+          Whole (t ∷ ts) l (cond d next (runAll room ts next))
       by next true z p c ih e = absurd (p e z)
       by next false z p c ih e =
           let w = ih z e in
@@ -175,7 +180,8 @@ module _ (room : ℕ) where
       let tally : Tally = record { answer = answer; count = count; dropped = dropped } in
       record { after = s; one = one; two = two; out = out; report = tally }
 
-  begun : (l : Line) (n : ℕ) → l .out ≡ [] → l .report .answer ≡ Passed → l .report .count ≡ 0 + n → l .report .dropped ≡ false →
+  begun : (l : Line) (n : ℕ) → l .out ≡ [] → l .report .answer ≡ Passed → l .report .count ≡ 0 + n →
+      l .report .dropped ≡ false →
       l ≡ further n (startLine (l .after) (l .one) (l .two))
   begun l n o a c d =
       let z : made (l .after) (l .one) (l .two) (l .out) (l .report .answer) (l .report .count) (l .report .dropped)
@@ -217,10 +223,12 @@ module _ (room : ℕ) (x y : List ℕ) (short : length (x ++ semicolon ∷ y) �
         rw (open-call room x m one two passes short-first) at (stays-allowed .line room x m one two .next passes) in
         both
         ∙ ap (λ d. withQueue (m .queue) (lineRan (cond d l (runAll room (textsOf y) l)))) (w .passes)
-        ∙ ap (λ z. withQueue (m .queue) (lineRan (runAll room (textsOf y) z))) (begun room l n o a (w .count) (w .passes))
+        ∙ ap (λ z. withQueue (m .queue) (lineRan (runAll room (textsOf y) z)))
+        (begun room l n o a (w .count) (w .passes))
         ∙ ap (λ z. withQueue (m .queue) (lineRan z))
         (run-further room n (textsOf y) (startLine (l .after) (l .one) (l .two)))
-        ∙ ap (later n) (sym (open-call room y (record { queue = m .queue; state = l .after }) (l .one) (l .two) guard short-second))
+        ∙ ap (later n)
+        (sym (open-call room y (record { queue = m .queue; state = l .after }) (l .one) (l .two) guard short-second))
 
 pub several-commands : SeveralCommands
 several-commands room x y short m one two passes =

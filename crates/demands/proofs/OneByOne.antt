@@ -251,10 +251,12 @@ passed-never r place p = let z : _≡_ {A = ℕ} 0 1 = cc in absurd (omega arith
 -- a refusal that the line has stays its answer; a line without one passes where each command is accepted, and else the
 -- first refused one is its answer
 pub record Answering (room : ℕ) (texts : List (List ℕ)) (l end : Line) : Type 0 where
-  pub kept : (r : Refusal) (place : ℕ) → l .report .answer ≡ answer.Refused r place → end .report .answer ≡ answer.Refused r place
+  pub kept : (r : Refusal) (place : ℕ) → l .report .answer ≡ answer.Refused r place →
+      end .report .answer ≡ answer.Refused r place
   pub passed : l .report .answer ≡ answer.Passed → end .report .answer ≡ answer.Passed →
       OneByOne (AcceptedStep room) room texts l end
-  pub placed : l .report .answer ≡ answer.Passed → (r : Refusal) (place : ℕ) → end .report .answer ≡ answer.Refused r place →
+  pub placed : l .report .answer ≡ answer.Passed → (r : Refusal) (place : ℕ) →
+      end .report .answer ≡ answer.Refused r place →
       (p : ℕ) × (place ≡ l .report .count + p) × FirstRefused r p room texts l
 
 answering-ends : (room : ℕ) (l : Line) → Answering room [] l l
@@ -277,7 +279,8 @@ module _ (room : ℕ) (text : List ℕ) (more : List (List ℕ)) (l end : Line) 
       }
     where
       later : (r : Refusal) (place : ℕ) →
-          ((p : ℕ) × (place ≡ stepOf room text l .report .count + p) × FirstRefused r p room more (stepOf room text l)) →
+          ((p : ℕ) × (place ≡ stepOf room text l .report .count + p)
+          × FirstRefused r p room more (stepOf room text l)) →
           (p : ℕ) × (place ≡ l .report .count + p) × FirstRefused r p room (text ∷ more) l
       later r place x =
           let y = x .2 in (
@@ -304,7 +307,8 @@ module _ (room : ℕ) (text : List ℕ) (more : List (List ℕ)) (l end : Line) 
       unfolding firstOf
       told-here e = stays r (l .report .count + 1) (a .answer ∙ rw e)
 
-      kept-here : (q : Refusal) (place : ℕ) → l .report .answer ≡ answer.Refused q place → end .report .answer ≡ answer.Refused q place
+      kept-here : (q : Refusal) (place : ℕ) → l .report .answer ≡ answer.Refused q place →
+          end .report .answer ≡ answer.Refused q place
       unfolding firstOf
       kept-here q place e = stays q place (a .answer ∙ rw e)
 

@@ -129,7 +129,8 @@ pub data SentBack (places : List Place) (values : List ℕ) (t : Module) (one tw
       SentBack places values t one two (silent (toldOf Passed 0) after one two)
   refused : CanRefuse places →
       SentBack places values t one two
-      (silent (toldOf (Refused NotAllowed 1) 0) (record { state = markedBy NotAllowed (t .state); queue = t .queue }) one two)
+      (silent (toldOf (Refused NotAllowed 1) 0)
+      (record { state = markedBy NotAllowed (t .state); queue = t .queue }) one two)
 
 -- FREQ? replies the frequency in force, which is FREQ's own value in internal mode
 abbrev pub Internal : Address → State → Type 0

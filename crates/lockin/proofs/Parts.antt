@@ -52,7 +52,8 @@ answers q h =
     )
 
 -- a call that keeps its queue, as a step on the state
-guarded-queue : {R : Type 0} (report : Refusal → R) (o : Outcome) (step : After State R) (m : Module) (one two : List ℕ) →
+guarded-queue : {R : Type 0} (report : Refusal → R) (o : Outcome) (step : After State R) (m : Module)
+    (one two : List ℕ) →
     guarded report o (withQueue (m .queue) step) m one two
     ≡ withQueue (m .queue) (guarded report o step (m .state) one two)
 unfolding guarded

@@ -99,31 +99,37 @@ unfoldable pub wholeLine : ℕ → List ℕ → Module → List ℕ → List ℕ
 wholeLine room line m one two =
     withQueue (m .queue) (lineEnd (wholeEnd (length line)) room line (m .state) one two)
 
+-- a call with a line handed over whole
 unfoldable pub lineCall : ℕ → List ℕ → Module → List ℕ → List ℕ → Call
 lineCall room line m one two =
     guarded refusedWhole (guardOf m (length one) (length two)) (wholeLine room line m one two) m one two
 
--- a byte: nothing ends, the line that waits ends and runs, and the queue is empty, or the line is too long
+-- what comes of a byte that left this queue: nothing ends, or the line that waits ends, runs and leaves the queue
+-- empty, or it is too long
 unfoldable pub fedCall : Ended → Queue → ℕ → Module → List ℕ → List ℕ → Call
 fedCall e q room m one two = withQueue (afterRun e q) (lineEnd e room (queue.waitingBytes q) (m .state) one two)
 
+-- a byte with its end mark
 unfoldable pub fedByte : ℕ → ℕ → Bool → Module → List ℕ → List ℕ → Call
 fedByte room b mark m one two =
     let fed = queue.fedOf (m .queue) (m .state .unit .port) b mark in
     fedCall (fed .ended) (fed .queue) room m one two
 
+-- a call with a byte
 unfoldable pub byteCall : ℕ → ℕ → Bool → Module → List ℕ → List ℕ → Call
 byteCall room b mark m one two =
     guarded refusedWhole (guardOf m (length one) (length two)) (fedByte room b mark m one two) m one two
 
 -- ---- events and the serial poll
 
+-- a call with an event
 unfoldable pub eventCall : Event → Module → List ℕ → List ℕ → EventCall
 eventCall e m one two =
     guarded outcome.Refused (guardOf m (length one) (length two))
     (withQueue (m .queue) (eventOf e (m .state) one two)) m one two
 
--- a serial poll: the status byte between lines, told as 0 under 11, "a state outside the ranges, steps and limits above"
+-- a serial poll: the status byte between lines, told as 0 under 11, "a state outside the ranges, steps and limits
+-- above"
 unfoldable pub pollOf : Module → Polled
 pollOf m =
     cond (allowedModule m)

@@ -6,26 +6,11 @@ use borrow.Author.Needs.{needs}
 use Rattle.answer.proofs.send_trace.Statement.{statement}
 use Rattle.answer.proofs.send_trace.Tie as tie
 
-place-of-requires : tie.Need-place-of-requires
-place-of-requires c κs = search needs
-
-send-points-requires : tie.Need-send-points-requires
-send-points-requires c κs = search needs
-
-same-length : tie.Need-same-length
-same-length c = search needs
-
 returns : tie.Need-returns
 unfolding traceReply
 returns c =
     let first = c .before .before .before .before in
     rw (eq-eqb _ _ (first .if1 .taken), ← first .before .place-of .ensures) (c .before .before .send-points .ensures)
-
-send-points-requires-2 : tie.Need-send-points-requires-2
-send-points-requires-2 c κs = search needs
-
-same-length-2 : tie.Need-same-length-2
-same-length-2 c = search needs
 
 returns-2 : tie.Need-returns-2
 unfolding traceReply
@@ -36,11 +21,5 @@ returns-2 c =
 pub send-trace-spec : {M : Type 1} → statement M
 send-trace-spec =
     tie.close
-    (tie.spec
-    place-of-requires
-    send-points-requires
-    same-length
-    returns
-    send-points-requires-2
-    same-length-2
-    returns-2)
+    (tie.spec (λ c κs. search needs) (λ c κs. search needs) (λ c. search needs) returns (λ c κs. search needs)
+    (λ c. search needs) returns-2)

@@ -6,51 +6,9 @@ use borrow.Author.Needs.{needs}
 use Rattle.event.proofs.occur.Statement.{statement}
 use Rattle.event.proofs.occur.Tie as tie
 
-enum-known-e : tie.Need-enum-known-e
-enum-known-e c = search needs
-
-new-pair-requires : tie.Need-new-pair-requires
-new-pair-requires c κs = search needs
-
-enum-told : tie.Need-enum-told
-enum-told c = search needs
-
-tick-of-requires : tie.Need-tick-of-requires
-tick-of-requires c κs = search needs
-
-sample-requires : tie.Need-sample-requires
-sample-requires c κs = search needs
-
-enum-told-2 : tie.Need-enum-told-2
-enum-told-2 c = search needs
-
-trigger-of-requires : tie.Need-trigger-of-requires
-trigger-of-requires c κs = search needs
-
-sample-requires-2 : tie.Need-sample-requires-2
-sample-requires-2 c κs = search needs
-
-enum-known-e-2 : tie.Need-enum-known-e-2
-enum-known-e-2 c = search needs
-
-measured-requires : tie.Need-measured-requires
-measured-requires c κs = search needs
-
-enum-known-e-3 : tie.Need-enum-known-e-3
-enum-known-e-3 c = search needs
-
-raised-requires : tie.Need-raised-requires
-raised-requires c κs = search needs
-
 returns : tie.Need-returns
 unfolding eventOf
 returns c = rw (c .before .before .e .given .1, c .new-pair .ensures) (silent-meets happenedOf _ _ _ _ [])
-
-same-length : tie.Need-same-length
-same-length c = search needs
-
-same-length-2 : tie.Need-same-length-2
-same-length-2 c = search needs
 
 returns-2 : tie.Need-returns-2
 unfolding eventOf
@@ -58,12 +16,6 @@ returns-2 c =
     let sampled = c .before .before .before .before in
     let tick = sampled .before .before .before in
     rw (tick .before .enum-told .given .1, ← tick .tick-of .ensures) (sampled .sample .ensures)
-
-same-length-3 : tie.Need-same-length-3
-same-length-3 c = search needs
-
-same-length-4 : tie.Need-same-length-4
-same-length-4 c = search needs
 
 returns-3 : tie.Need-returns-3
 unfolding eventOf
@@ -83,25 +35,7 @@ returns-5 c = rw (c .before .before .e3 .given .1, c .raised .ensures) (silent-m
 pub occur-spec : {M : Type 1} → statement M
 occur-spec =
     tie.close
-    (tie.spec
-    enum-known-e
-    new-pair-requires
-    enum-told
-    tick-of-requires
-    sample-requires
-    enum-told-2
-    trigger-of-requires
-    sample-requires-2
-    enum-known-e-2
-    measured-requires
-    enum-known-e-3
-    raised-requires
-    returns
-    same-length
-    same-length-2
-    returns-2
-    same-length-3
-    same-length-4
-    returns-3
-    returns-4
-    returns-5)
+    (tie.spec (λ c. search needs) (λ c κs. search needs) (λ c. search needs) (λ c κs. search needs)
+    (λ c κs. search needs) (λ c. search needs) (λ c κs. search needs) (λ c κs. search needs) (λ c. search needs)
+    (λ c κs. search needs) (λ c. search needs) (λ c κs. search needs) returns (λ c. search needs) (λ c. search needs)
+    returns-2 (λ c. search needs) (λ c. search needs) returns-3 returns-4 returns-5)

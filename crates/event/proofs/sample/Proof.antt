@@ -7,18 +7,6 @@ use borrow.Author.Needs.{needs}
 use Rattle.event.proofs.sample.Statement.{statement}
 use Rattle.event.proofs.sample.Tie as tie
 
-store-requires : tie.Need-store-requires
-store-requires c κs = search needs
-
-sampled-requires : tie.Need-sampled-requires
-sampled-requires c κs = search needs
-
-same-length : tie.Need-same-length
-same-length c = search needs
-
-same-length-2 : tie.Need-same-length-2
-same-length-2 c = search needs
-
 returns : tie.Need-returns
 unfolding sampledIn
 returns c =
@@ -27,4 +15,5 @@ returns c =
 
 pub sample-spec : {M : Type 1} → statement M
 sample-spec =
-    tie.close (tie.spec store-requires sampled-requires same-length same-length-2 returns)
+    tie.close
+    (tie.spec (λ c κs. search needs) (λ c κs. search needs) (λ c. search needs) (λ c. search needs) returns)

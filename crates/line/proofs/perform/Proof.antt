@@ -6,27 +6,6 @@ use Rattle.line.proofs.Effects.{written-fits, done, no-room, not-allowe
 use Rattle.line.proofs.perform.Statement.{statement}
 use Rattle.line.proofs.perform.Tie as tie
 
-allows-requires : tie.Need-allows-requires
-allows-requires c κs = search needs
-
-send-reply-requires : tie.Need-send-reply-requires
-send-reply-requires c κs = search needs
-
-storage-after-requires : tie.Need-storage-after-requires
-storage-after-requires c κs = search needs
-
-store-requires : tie.Need-store-requires
-store-requires c κs = search needs
-
-state-after-requires : tie.Need-state-after-requires
-state-after-requires c κs = search needs
-
-same-length : tie.Need-same-length
-same-length c = search needs
-
-same-length-2 : tie.Need-same-length-2
-same-length-2 c = search needs
-
 same-length-3 : tie.Need-same-length-3
 same-length-3 c =
     let stored = c .before .before .before .before .before in
@@ -52,18 +31,6 @@ returns c =
       rw (sent .kept .1 .1 .1 .1 .1 .0) (written-fits _ out),
     )
 
-refused-requires : tie.Need-refused-requires
-refused-requires c κs = search needs
-
-same-length-4 : tie.Need-same-length-4
-same-length-4 c = search needs
-
-same-length-5 : tie.Need-same-length-5
-same-length-5 c = search needs
-
-same-length-6 : tie.Need-same-length-6
-same-length-6 c = search needs
-
 returns-2 : tie.Need-returns-2
 returns-2 c =
     let left = c .before in
@@ -75,9 +42,6 @@ returns-2 c =
           (sym (allowed .before .allows .ensures) ∙ allowed .if1 .taken) (left .if2 .left)),
       rw (c .refused .ensures) (omega arith),
     )
-
-refused-requires-2 : tie.Need-refused-requires-2
-refused-requires-2 c κs = search needs
 
 returns-3 : tie.Need-returns-3
 returns-3 c =
@@ -92,20 +56,6 @@ returns-3 c =
 pub perform-spec : {M : Type 1} → statement M
 perform-spec =
     tie.close
-    (tie.spec
-    allows-requires
-    send-reply-requires
-    storage-after-requires
-    store-requires
-    state-after-requires
-    same-length
-    same-length-2
-    same-length-3
-    returns
-    refused-requires
-    same-length-4
-    same-length-5
-    same-length-6
-    returns-2
-    refused-requires-2
-    returns-3)
+    (tie.spec (λ c κs. search needs) (λ c κs. search needs) (λ c κs. search needs) (λ c κs. search needs)
+    (λ c κs. search needs) (λ c. search needs) (λ c. search needs) same-length-3 returns (λ c κs. search needs)
+    (λ c. search needs) (λ c. search needs) (λ c. search needs) returns-2 (λ c κs. search needs) returns-3)

@@ -26,21 +26,6 @@ loop-holds c =
       counted = omega arith;
     }
 
-end-of-requires : tie.Need-end-of-requires Inv-loop μ-loop
-end-of-requires c κs = omega arith
-
-sub-step : tie.Need-sub-step Inv-loop μ-loop
-sub-step c = omega arith
-
-part-step-start : tie.Need-part-step-start Inv-loop μ-loop
-part-step-start c = omega arith
-
-part-step-end : tie.Need-part-step-end Inv-loop μ-loop
-part-step-end c = omega arith
-
-step-requires : tie.Need-step-requires Inv-loop μ-loop
-step-requires c κs = omega arith
-
 same-length : tie.Need-same-length Inv-loop μ-loop
 same-length c =
     let turn = c .before .before .before .before .before .before .before in
@@ -89,12 +74,6 @@ returns-2 c =
     (step .last .1 .1 .0) (step .last .1 .1 .1 .0) (step .last .1 .1 .1 .1 .0) (step .ensures .0) (step .ensures .1 .0)
     (step .ensures .1 .1) (c .before .if1 .left) (c .if2 .taken)
 
-add-a : tie.Need-add-a Inv-loop μ-loop
-add-a c = omega arith
-
-loop-less : tie.Need-loop-less Inv-loop μ-loop
-loop-less c = omega arith
-
 loop-again : tie.Need-loop-again Inv-loop μ-loop
 loop-again c =
     let turn = c .before .before .before .before .before .before .before .before in
@@ -110,23 +89,6 @@ loop-again c =
 pub run-spec : {M : Type 1} → statement M
 run-spec =
     tie.close
-    (tie.spec
-    Inv-loop
-    μ-loop
-    loop-holds
-    end-of-requires
-    sub-step
-    part-step-start
-    part-step-end
-    step-requires
-    same-length
-    same-length-2
-    same-length-3
-    returns
-    same-length-4
-    same-length-5
-    same-length-6
-    returns-2
-    add-a
-    loop-less
-    loop-again)
+    (tie.spec Inv-loop μ-loop loop-holds (λ c κs. omega arith) (λ c. omega arith) (λ c. omega arith)
+    (λ c. omega arith) (λ c κs. omega arith) same-length same-length-2 same-length-3 returns same-length-4
+    same-length-5 same-length-6 returns-2 (λ c. omega arith) (λ c. omega arith) loop-again)

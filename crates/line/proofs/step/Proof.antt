@@ -7,18 +7,6 @@ use Rattle.line.proofs.Steps.{step-holds, part-fits, mended-fits}
 use Rattle.line.proofs.step.Statement.{statement}
 use Rattle.line.proofs.step.Tie as tie
 
-sub-take-command : tie.Need-sub-take-command
-sub-take-command c = search needs
-
-part-take-command-start : tie.Need-part-take-command-start
-part-take-command-start c = search needs
-
-part-take-command-end : tie.Need-part-take-command-end
-part-take-command-end c = search needs
-
-take-command-requires : tie.Need-take-command-requires
-take-command-requires c κs = search needs
-
 after-requires : tie.Need-after-requires
 after-requires c κs =
     let taken = c .before .before .before .before .before .before in
@@ -30,15 +18,6 @@ after-requires c κs =
       start .pre .1,
     )
 
-same-length : tie.Need-same-length
-same-length c = search needs
-
-same-length-2 : tie.Need-same-length-2
-same-length-2 c = search needs
-
-same-length-3 : tie.Need-same-length-3
-same-length-3 c = search needs
-
 returns : tie.Need-returns
 returns c =
     let taken = c .before .before .before .before .before .before .before in
@@ -47,7 +26,8 @@ returns c =
     let a = start .args in
     let new = t .last .1 .1 .1 .1 .1 .0 in
     let g : c .after .result .at ≡ a .p .at + t .result .written = ap (λ r. r .at) (c .after .ensures) in (
-      step-holds (a .p) (c .after .result) (a .text .now) (a .one .now) (a .two .now) _ _ (a .reply .now) new (t .result)
+      step-holds (a .p) (c .after .result) (a .text .now) (a .one .now) (a .two .now) _ _ (a .reply .now) new
+          (t .result)
           (start .pre .0) (t .ensures .0) (c .after .ensures),
       (
         omega arith,
@@ -59,13 +39,5 @@ returns c =
 pub step-spec : {M : Type 1} → statement M
 step-spec =
     tie.close
-    (tie.spec
-    sub-take-command
-    part-take-command-start
-    part-take-command-end
-    take-command-requires
-    after-requires
-    same-length
-    same-length-2
-    same-length-3
-    returns)
+    (tie.spec (λ c. search needs) (λ c. search needs) (λ c. search needs) (λ c κs. search needs) after-requires
+    (λ c. search needs) (λ c. search needs) (λ c. search needs) returns)

@@ -6,27 +6,6 @@ use Rattle.lockin.specs.Parts.{resultOf}
 use Rattle.lockin.proofs.end_guarded.Statement.{statement}
 use Rattle.lockin.proofs.end_guarded.Tie as tie
 
-enum-told : tie.Need-enum-told
-enum-told c = search needs
-
-end-line-requires : tie.Need-end-line-requires
-end-line-requires c κs = search needs
-
-enum-known-outcome : tie.Need-enum-known-outcome
-enum-known-outcome c = search needs
-
-tell-requires : tie.Need-tell-requires
-tell-requires c κs = search needs
-
-same-length : tie.Need-same-length
-same-length c = search needs
-
-same-length-2 : tie.Need-same-length-2
-same-length-2 c = search needs
-
-same-length-3 : tie.Need-same-length-3
-same-length-3 c = search needs
-
 returns : tie.Need-returns
 unfolding guarded
 returns c =
@@ -40,13 +19,5 @@ returns-2 c = rw (c .tell .ensures, c .before .before .outcome .given .1) (silen
 pub end-guarded-spec : {M : Type 1} → statement M
 end-guarded-spec =
     tie.close
-    (tie.spec
-    enum-told
-    end-line-requires
-    enum-known-outcome
-    tell-requires
-    same-length
-    same-length-2
-    same-length-3
-    returns
-    returns-2)
+    (tie.spec (λ c. search needs) (λ c κs. search needs) (λ c. search needs) (λ c κs. search needs)
+    (λ c. search needs) (λ c. search needs) (λ c. search needs) returns returns-2)

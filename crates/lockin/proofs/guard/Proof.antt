@@ -3,11 +3,8 @@ use borrow.Author.Needs.{needs}
 use Rattle.lockin.proofs.guard.Statement.{statement}
 use Rattle.lockin.proofs.guard.Tie as tie
 
-guard-requires : tie.Need-guard-requires
-guard-requires c κs = search needs
-
 returns : tie.Need-returns
 returns c = c .guard .ensures
 
 pub guard-spec : {M : Type 1} → statement M
-guard-spec = tie.close (tie.spec guard-requires returns)
+guard-spec = tie.close (tie.spec (λ c κs. search needs) returns)

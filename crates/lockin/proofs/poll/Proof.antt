@@ -11,12 +11,6 @@ use Rattle.lockin.proofs.poll.Tie as tie
 with-number : {r p : Polled} → r ≡ p → (r ≡ p) × (numberOf (r .outcome) ≡ numberOf (p .outcome))
 with-number e = (e, ap (λ p. numberOf (p .outcome)) e)
 
-allowed-requires : tie.Need-allowed-requires
-allowed-requires c κs = search needs
-
-status-between-requires : tie.Need-status-between-requires
-status-between-requires c κs = search needs
-
 returns : tie.Need-returns
 unfolding pollOf
 returns c =
@@ -28,4 +22,4 @@ unfolding pollOf
 returns-2 c = with-number (simp (sym (c .before .allowed .ensures) ∙ c .if1 .left))
 
 pub poll-spec : {M : Type 1} → statement M
-poll-spec = tie.close (tie.spec allowed-requires status-between-requires returns returns-2)
+poll-spec = tie.close (tie.spec (λ c κs. search needs) (λ c κs. search needs) returns returns-2)

@@ -3,11 +3,8 @@ use borrow.Author.Needs.{needs}
 use Rattle.lockin.proofs.refused_start.Statement.{statement}
 use Rattle.lockin.proofs.refused_start.Tie as tie
 
-fresh-requires : tie.Need-fresh-requires
-fresh-requires c κs = search needs
-
 returns : tie.Need-returns
 returns c = rw (c .fresh .ensures)
 
 pub refused-start-spec : {M : Type 1} → statement M
-refused-start-spec = tie.close (tie.spec fresh-requires returns)
+refused-start-spec = tie.close (tie.spec (λ c κs. search needs) returns)

@@ -12,21 +12,6 @@ use Rattle.lockin.proofs.start.Tie as tie
 with-number : {r s : Started} → r ≡ s → (r ≡ s) × (numberOf (r .outcome) ≡ numberOf (s .outcome))
 with-number e = (e, ap (λ s. numberOf (s .outcome)) e)
 
-unit-known-requires : tie.Need-unit-known-requires
-unit-known-requires c κs = search needs
-
-traces-fit-requires : tie.Need-traces-fit-requires
-traces-fit-requires c κs = search needs
-
-cast-t11 : tie.Need-cast-t11
-cast-t11 c = search needs
-
-cast-t14 : tie.Need-cast-t14
-cast-t14 c = search needs
-
-fresh-requires : tie.Need-fresh-requires
-fresh-requires c κs = search needs
-
 returns : tie.Need-returns
 unfolding startOf
 returns c =
@@ -36,9 +21,6 @@ returns c =
     let t = sym (fit .before .traces-fit .ensures) ∙ fit .if2 .taken in
     with-number (rw (c .fresh .ensures, u, t, port-small _ _ u, capacity-small _ _ t))
 
-refused-start-requires : tie.Need-refused-start-requires
-refused-start-requires c κs = search needs
-
 returns-2 : tie.Need-returns-2
 unfolding startOf
 returns-2 c =
@@ -46,9 +28,6 @@ returns-2 c =
     let known = unfit .before .before in
     let u = sym (known .before .unit-known .ensures) ∙ known .if1 .taken in
     with-number (rw (c .refused-start .ensures, u, sym (unfit .before .traces-fit .ensures) ∙ unfit .if2 .left))
-
-refused-start-requires-2 : tie.Need-refused-start-requires-2
-refused-start-requires-2 c κs = search needs
 
 returns-3 : tie.Need-returns-3
 unfolding startOf
@@ -59,14 +38,5 @@ returns-3 c =
 pub start-spec : {M : Type 1} → statement M
 start-spec =
     tie.close
-    (tie.spec
-    unit-known-requires
-    traces-fit-requires
-    cast-t11
-    cast-t14
-    fresh-requires
-    returns
-    refused-start-requires
-    returns-2
-    refused-start-requires-2
-    returns-3)
+    (tie.spec (λ c κs. search needs) (λ c κs. search needs) (λ c. search needs) (λ c. search needs)
+    (λ c κs. search needs) returns (λ c κs. search needs) returns-2 (λ c κs. search needs) returns-3)

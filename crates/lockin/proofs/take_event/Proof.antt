@@ -4,18 +4,6 @@ use Rattle.lockin.proofs.Parts.{event-answers}
 use Rattle.lockin.proofs.take_event.Statement.{statement}
 use Rattle.lockin.proofs.take_event.Tie as tie
 
-guard-requires : tie.Need-guard-requires
-guard-requires c κs = search needs
-
-occur-guarded-requires : tie.Need-occur-guarded-requires
-occur-guarded-requires c κs = search needs
-
-same-length : tie.Need-same-length
-same-length c = search needs
-
-same-length-2 : tie.Need-same-length-2
-same-length-2 c = search needs
-
 returns : tie.Need-returns
 returns c =
     let occurred = c .before .before .before .before .before in
@@ -25,4 +13,5 @@ returns c =
 
 pub take-event-spec : {M : Type 1} → statement M
 take-event-spec =
-    tie.close (tie.spec guard-requires occur-guarded-requires same-length same-length-2 returns)
+    tie.close
+    (tie.spec (λ c κs. search needs) (λ c κs. search needs) (λ c. search needs) (λ c. search needs) returns)

@@ -4,15 +4,6 @@ use borrow.Author.Needs.{needs}
 use Rattle.reply.proofs.formed_word.Statement.{statement}
 use Rattle.reply.proofs.formed_word.Tie as tie
 
-enum-told : tie.Need-enum-told
-enum-told c = search needs
-
-enum-told-2 : tie.Need-enum-told-2
-enum-told-2 c = search needs
-
-float-bits-requires : tie.Need-float-bits-requires
-float-bits-requires c κs = search needs
-
 returns : tie.Need-returns
 unfolding formed
 returns c = rw (c .enum-told .given .1)
@@ -22,4 +13,4 @@ unfolding formed
 returns-2 c = rw (c .before .enum-told2 .given .1) (c .float-bits .ensures)
 
 pub formed-word-spec : {M : Type 1} → statement M
-formed-word-spec = tie.close (tie.spec enum-told enum-told-2 float-bits-requires returns returns-2)
+formed-word-spec = tie.close (tie.spec (λ c. search needs) (λ c. search needs) (λ c κs. search needs) returns returns-2)

@@ -1,4 +1,5 @@
--- `reply::put_points` meets its contract: what is written so far, then the points that are left, is the whole; the measure is how many are left. Assumes nothing.
+-- `reply::put_points` meets its contract: what is written so far, then the points that are left, is the whole; the
+-- measure is how many are left. Assumes nothing.
 use native.Mathlib.Nat.{add-zero, sub-zero}
 use Prim.Native.Nat.{_+_, _-_, _*_, _≤_}
 use mathlib.Core.Path.{_≡_, refl, sym, ap, _∙_}
@@ -14,7 +15,8 @@ use Rattle.reply.proofs.put_points.Tie as tie
 abbrev Inv-loop : tie.InvT-loop
 Inv-loop trace first count form out₀ i₀ out i =
     (i ≤ count)
-    × (take (4 * i) out ++ over (pointBytes form trace (first + i) (count - i)) (drop (4 * i) out) ≡ over (pointBytes form trace first count) out₀)
+    × (take (4 * i) out ++ over (pointBytes form trace (first + i) (count - i)) (drop (4 * i) out)
+    ≡ over (pointBytes form trace first count) out₀)
     × (length out ≡ length out₀)
 
 abbrev μ-loop : tie.MeasureT-loop
@@ -22,27 +24,6 @@ abbrev μ-loop : tie.MeasureT-loop
 
 loop-holds : tie.Need-loop-holds Inv-loop μ-loop
 loop-holds c = (omega arith, rw (add-zero, sub-zero) refl, refl)
-
-add-word-at : tie.Need-add-word-at Inv-loop μ-loop
-add-word-at c = omega arith
-
-word-at-requires : tie.Need-word-at-requires Inv-loop μ-loop
-word-at-requires c κs = search needs
-
-formed-word-requires : tie.Need-formed-word-requires Inv-loop μ-loop
-formed-word-requires c κs = search needs
-
-mul-put-word : tie.Need-mul-put-word Inv-loop μ-loop
-mul-put-word c = omega arith
-
-put-word-requires : tie.Need-put-word-requires Inv-loop μ-loop
-put-word-requires c κs = omega arith
-
-add-i : tie.Need-add-i Inv-loop μ-loop
-add-i c = omega arith
-
-loop-less : tie.Need-loop-less Inv-loop μ-loop
-loop-less c = omega arith
 
 loop-again : tie.Need-loop-again Inv-loop μ-loop
 loop-again c =
@@ -53,7 +34,9 @@ loop-again c =
     let e : x .result ≡ formed (a .form) (wordAt (a .trace .now) (a .first + v .i)) =
     x .ensures ∙ ap (formed (a .form)) (c .before .before .before .before .before .word-at .ensures) in (
       omega arith,
-      rw (p .ensures) (points-more (a .form) (a .trace .now) (v .out) (a .first) (v .i) (a .count) (x .result) e (omega arith) (omega arith) ∙ v .inv .1),
+      rw (p .ensures)
+          (points-more (a .form) (a .trace .now) (v .out) (a .first) (v .i) (a .count) (x .result) e (omega arith)
+          (omega arith) ∙ v .inv .1),
       p .kept .1 .1 .0 ∙ v .inv .2,
     )
 
@@ -71,17 +54,5 @@ returns c =
 pub put-points-spec : {M : Type 1} → statement M
 put-points-spec =
     tie.close
-    (tie.spec
-    Inv-loop
-    μ-loop
-    loop-holds
-    add-word-at
-    word-at-requires
-    formed-word-requires
-    mul-put-word
-    put-word-requires
-    add-i
-    loop-less
-    loop-again
-    same-length
-    returns)
+    (tie.spec Inv-loop μ-loop loop-holds (λ c. omega arith) (λ c κs. search needs) (λ c κs. search needs)
+    (λ c. omega arith) (λ c κs. omega arith) (λ c. omega arith) (λ c. omega arith) loop-again same-length returns)

@@ -8,27 +8,17 @@ use borrow.Author.Needs.{needs}
 use Rattle.reply.proofs.send.Statement.{statement}
 use Rattle.reply.proofs.send.Tie as tie
 
-slice-aggregate-shown-length : tie.Need-slice-aggregate-shown-length
-slice-aggregate-shown-length c = search needs
-
-shown-length-requires : tie.Need-shown-length-requires
-shown-length-requires c κs = search needs
-
 returns : tie.Need-returns
 returns c =
     let a = c .before .before .before .before .before .args in
     not-sent (shown (a .t)) (a .out .now) (rw (← c .before .shown-length .ensures) (c .if1 .taken))
 
-slice-aggregate-copy : tie.Need-slice-aggregate-copy
-slice-aggregate-copy c = search needs
-
 copy-requires : tie.Need-copy-requires
 copy-requires c κs =
-    let a = c .before .before .before .before .before .before .before .args in
-    (omega (arith, length-take (a .t .len) (a .t .bytes), c .before .before .before .shown-length .ensures), omega arith)
-
-same-length : tie.Need-same-length
-same-length c = search needs
+    let a = c .before .before .before .before .before .before .before .args in (
+      omega (arith, length-take (a .t .len) (a .t .bytes), c .before .before .before .shown-length .ensures),
+      omega arith,
+    )
 
 returns-2 : tie.Need-returns-2
 returns-2 c =
@@ -41,11 +31,5 @@ returns-2 c =
 pub send-spec : {M : Type 1} → statement M
 send-spec =
     tie.close
-    (tie.spec
-    slice-aggregate-shown-length
-    shown-length-requires
-    returns
-    slice-aggregate-copy
-    copy-requires
-    same-length
+    (tie.spec (λ c. search needs) (λ c κs. search needs) returns (λ c. search needs) copy-requires (λ c. search needs)
     returns-2)

@@ -1,4 +1,5 @@
--- `reply::send_points` meets its contract: points that fit are written from the slot of their place on, any others leave
+-- `reply::send_points` meets its contract: points that fit are written from the slot of their place on, any others
+-- leave
 -- the room as it was. Assumes nothing.
 use native.Mathlib.Omega.{arith}
 use Rattle.reply.specs.Reply.{pointBytes}
@@ -8,28 +9,16 @@ use borrow.Author.Needs.{needs}
 use Rattle.reply.proofs.send_points.Statement.{statement}
 use Rattle.reply.proofs.send_points.Tie as tie
 
-mul-if1 : tie.Need-mul-if1
-mul-if1 c = search needs
-
 returns : tie.Need-returns
 returns c =
     let a = c .before .before .before .args in
     not-sent (pointBytes (a .form) (a .trace .now) (a .place) (a .count)) (a .out .now)
     (rw pointBytes-length (omega arith))
 
-slot-of-requires : tie.Need-slot-of-requires
-slot-of-requires c κs = search needs
-
 put-points-requires : tie.Need-put-points-requires
 put-points-requires c κs =
     let k = c .before .before .before .before .before in
     (omega (arith, k .good .0 .1), omega arith)
-
-mul-t9 : tie.Need-mul-t9
-mul-t9 c = search needs
-
-same-length : tie.Need-same-length
-same-length c = search needs
 
 returns-2 : tie.Need-returns-2
 returns-2 c =
@@ -42,4 +31,5 @@ returns-2 c =
 pub send-points-spec : {M : Type 1} → statement M
 send-points-spec =
     tie.close
-    (tie.spec mul-if1 returns slot-of-requires put-points-requires mul-t9 same-length returns-2)
+    (tie.spec (λ c. search needs) returns (λ c κs. search needs) put-points-requires (λ c. search needs)
+    (λ c. search needs) returns-2)

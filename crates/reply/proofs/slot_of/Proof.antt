@@ -9,13 +9,10 @@ use Rattle.reply.proofs.slot_of.Tie as tie
 returns : tie.Need-returns
 returns c = (rw (eq-eqb _ _ (c .if1 .taken)), omega arith)
 
-rem-result : tie.Need-rem-result
-rem-result c = search needs
-
 returns-2 : tie.Need-returns-2
 returns-2 c =
     let a = c .before .args in
     (rw (ne-eqb _ _ (c .if1 .left)), omega (arith, mod-lt (a .place) {m = a .slots} (omega arith)))
 
 pub slot-of-spec : {M : Type 1} → statement M
-slot-of-spec = tie.close (tie.spec returns rem-result returns-2)
+slot-of-spec = tie.close (tie.spec returns (λ c. search needs) returns-2)

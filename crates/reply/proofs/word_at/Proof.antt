@@ -6,25 +6,17 @@ use borrow.Author.Needs.{needs}
 use Rattle.reply.proofs.word_at.Statement.{statement}
 use Rattle.reply.proofs.word_at.Tie as tie
 
-slot-of-requires : tie.Need-slot-of-requires
-slot-of-requires c κs = search needs
-
-mul-result : tie.Need-mul-result
-mul-result c = search needs
-
-shared-slice-read-result : tie.Need-shared-slice-read-result
-shared-slice-read-result c = search needs
-
 returns : tie.Need-returns
 returns c =
-    word-slot (c .before .before .before .before .args .trace .now) (c .before .before .before .before .args .place) (c .before .before .slot-of .result)
+    word-slot (c .before .before .before .before .args .trace .now) (c .before .before .before .before .args .place)
+    (c .before .before .slot-of .result)
     (c .before .before .slot-of .ensures .0) (omega arith)
 
 returns-2 : tie.Need-returns-2
 returns-2 c =
-    sym (word-none (c .before .before .before .args .trace .now) (c .before .before .before .args .place) (c .before .slot-of .result)
+    sym (word-none (c .before .before .before .args .trace .now) (c .before .before .before .args .place)
+    (c .before .slot-of .result)
     (c .before .slot-of .ensures .0) (omega arith))
 
 pub word-at-spec : {M : Type 1} → statement M
-word-at-spec =
-    tie.close (tie.spec slot-of-requires mul-result shared-slice-read-result returns returns-2)
+word-at-spec = tie.close (tie.spec (λ c κs. search needs) (λ c. search needs) (λ c. search needs) returns returns-2)
