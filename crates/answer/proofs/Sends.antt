@@ -9,11 +9,12 @@ use types.Run.{OneOf, miss}
 use Rattle.text.specs.Parts.{added}
 use Rattle.reply.specs.declared.Sent.{Sent}
 use Rattle.reply.specs.Reply.{fitsIn}
-use Rattle.reply.specs.Parts.{sentOf}
+use Rattle.reply.specs.Parts.{sentOf, Sends}
 use Rattle.reply.proofs.Over.{over-none}
-use Rattle.reply.proofs.Sending.{Told, all-sent}
+use Rattle.reply.proofs.Sending.{all-sent}
 use Rattle.command.specs.declared.QueryArgument.{QueryArgument}
-use Rattle.command.specs.declared.QueryArgument.the-variants.{Value, Pair, Enable, EnableBit, Status, StatusBit, Identity, Points, Trace}
+use Rattle.command.specs.declared.QueryArgument.the-variants.{Value, Pair, Enable, EnableBit, Status, StatusBit}
+use Rattle.command.specs.declared.QueryArgument.the-variants.{Identity, Points, Trace}
 use Rattle.command.specs.declared.Kind.{Kind}
 use Rattle.command.specs.declared.Kind.the-variants.{Set, Query, Act}
 use Rattle.command.proofs.QueryArgument.{the-type as query-type}
@@ -24,17 +25,19 @@ use Rattle.reply_text.proofs.Texts.{Says, says-more}
 use Rattle.answer.specs.Reply.{endedText, queryReply, replyOf}
 
 -- a text with the end of its port
-pub says-ended : (q : QueryArgument) (s : State) (waiting : Bool) (r t : List ℕ) (end : ℕ)
-    → Says 27 t (textOf q s waiting) → end ≡ endOf (s .unit .port) → r ≡ added t (end ∷ []) → r ≡ endedText q s waiting
+pub says-ended : (q : QueryArgument) (s : State) (waiting : Bool) (r t : List ℕ) (end : ℕ) →
+    Says 27 t (textOf q s waiting) → end ≡ endOf (s .unit .port) → r ≡ added t (end ∷ []) → r ≡ endedText q s waiting
 unfolding endedText
-says-ended q s waiting r t end h e p = says-more 28 r t (end ∷ []) p (omega (arith, h .1)) (omega arith) .0 ∙ rw (h .0, e)
+says-ended q s waiting r t end h e p =
+    says-more 28 r t (end ∷ []) p (omega (arith, h .1)) (omega arith) .0 ∙ rw (h .0, e)
 
 -- the numbers of a query's variants but the last, a trace read
 abbrev texts : List ℕ
 texts = 0 ∷ 1 ∷ 2 ∷ 3 ∷ 4 ∷ 5 ∷ 6 ∷ 7 ∷ []
 
 -- every query but a trace read replies a text
-pub text-replied : (q : QueryArgument) (s : State) (waiting : Bool) (one two : List ℕ) → OneOf texts (tagOf query-type q) → queryReply q s waiting one two ≡ endedText q s waiting
+pub text-replied : (q : QueryArgument) (s : State) (waiting : Bool) (one two : List ℕ) →
+    OneOf texts (tagOf query-type q) → queryReply q s waiting one two ≡ endedText q s waiting
 unfolding queryReply
 text-replied (Value entry) s waiting one two h = refl
 text-replied (Pair entry) s waiting one two h = refl
@@ -51,13 +54,14 @@ abbrev others : List ℕ
 others = 0 ∷ 2 ∷ []
 
 -- a command that is no query replies nothing
-pub none-replied : (kind : Kind) (s : State) (waiting : Bool) (one two : List ℕ) → OneOf others (tagOf kind-type kind) → replyOf kind s waiting one two ≡ []
+pub none-replied : (kind : Kind) (s : State) (waiting : Bool) (one two : List ℕ) →
+    OneOf others (tagOf kind-type kind) → replyOf kind s waiting one two ≡ []
 unfolding replyOf
 none-replied (Set a) s waiting one two h = refl
 none-replied (Query q) s waiting one two h = absurd (miss others 1 tt h)
 none-replied (Act a) s waiting one two h = refl
 
 -- nothing is sent, and the room keeps its bytes
-pub told-none : (room : List ℕ) {r : Sent} → r ≡ sentOf [] 0 → Told [] room r room
+pub none-sent : (room : List ℕ) {r : Sent} → r ≡ sentOf [] 0 → Sends [] r room room
 unfolding fitsIn
-told-none room e = rw e (all-sent [] room room 0 refl (omega arith) (sym (over-none room)))
+none-sent room e = rw e (all-sent [] room room 0 refl (omega arith) (sym (over-none room)))

@@ -6,13 +6,15 @@ use lib.Dec.{eqb}
 use Rattle.storage.specs.Storage.{oldestOf}
 use Rattle.name.specs.declared.Form.{Form}
 use Rattle.command.specs.declared.QueryArgument.{QueryArgument}
-use Rattle.command.specs.declared.QueryArgument.the-variants.{Value, Pair, Enable, EnableBit, Status, StatusBit, Identity, Points, Trace}
+use Rattle.command.specs.declared.QueryArgument.the-variants.{Value, Pair, Enable, EnableBit, Status, StatusBit}
+use Rattle.command.specs.declared.QueryArgument.the-variants.{Identity, Points, Trace}
 use Rattle.command.specs.declared.Kind.{Kind}
 use Rattle.command.specs.declared.Kind.the-variants.{Set, Query, Act}
 use Rattle.reply.specs.Reply.{pointBytes}
 use Rattle.state.specs.declared.State.{State}
 use Rattle.reply_text.specs.ReplyText.{textOf, endOf}
 
+-- a text with the byte that ends it on the port
 unfoldable pub endedText : QueryArgument → State → Bool → List ℕ
 endedText q s waiting = textOf q s waiting ++ (endOf (s .unit .port) ∷ [])
 
@@ -25,6 +27,7 @@ unfoldable pub traceReply : State → Form → ℕ → ℕ → ℕ → List ℕ 
 traceReply s form t bin count one two =
     pointBytes form (traceOf t one two) (oldestOf (s .moving .storage) (s .unit .capacity) + bin) count
 
+-- what a query replies: points for a trace read, a text for every other one
 unfoldable pub queryReply : QueryArgument → State → Bool → List ℕ → List ℕ → List ℕ
 queryReply (Trace form t bin count) s waiting one two = traceReply s form t bin count one two
 queryReply (Value entry) s waiting one two = endedText (Value entry) s waiting

@@ -2,10 +2,8 @@
 ghost use mathlib.Core.Path.{_≡_};
 ghost use mathlib.Core.List.{[]};
 ghost use Prim.Native.Nat.{_+_};
-ghost use lib.ListN.{length};
 ghost use Rattle.storage.specs.Storage.{oldestOf};
-ghost use Rattle.reply.specs.Reply.{over, sentBytes};
-ghost use Rattle.reply.specs.Parts.{sentOf};
+ghost use Rattle.reply.specs.Parts.{sentOf, Sends};
 ghost use Rattle.answer.specs.Reply.{endedText, traceReply, queryReply, replyOf};
 use command::Kind;
 use command::QueryArgument;
@@ -14,8 +12,9 @@ use reply::Sent;
 use state::State;
 use storage::Storage;
 
+// The text that a query replies, with the byte that ends it on the port.
 fn send_text(s: State, q: QueryArgument, waiting: bool, out: &mut [u8]) -> Sent
-    ensures { λ r. ⌜ (r ≡ sentOf (endedText q s waiting) (length (now (out .entry)))) × (now (out .exit) ≡ over (sentBytes (endedText q s waiting) (length (now (out .entry)))) (now (out .entry))) ⌝ }
+    ensures { λ r. ⌜ Sends (endedText q s waiting) r (now (out .exit)) (now (out .entry)) ⌝ }
 {
     let ended = text::push(
         reply_text::text_of(s, q, waiting),
@@ -42,7 +41,8 @@ fn send_trace(
     two: &[u32],
     out: &mut [u8],
 ) -> Sent
-    ensures { λ r. ⌜ (r ≡ sentOf (traceReply s form t bin count (now (one .entry)) (now (two .entry))) (length (now (out .entry)))) × (now (out .exit) ≡ over (sentBytes (traceReply s form t bin count (now (one .entry)) (now (two .entry))) (length (now (out .entry)))) (now (out .entry))) ⌝ }
+    ensures { λ r. ⌜ Sends (traceReply s form t bin count (now (one .entry)) (now (two .entry))) r
+        (now (out .exit)) (now (out .entry)) ⌝ }
 {
     let place = place_of(s.moving.storage, s.unit.capacity, bin);
     if t == 1 {
@@ -51,6 +51,7 @@ fn send_trace(
     reply::send_points(two, place, count, form, out)
 }
 
+// What a query replies: points for a trace read, a text for every other one.
 fn send_query(
     s: State,
     q: QueryArgument,
@@ -59,7 +60,8 @@ fn send_query(
     two: &[u32],
     out: &mut [u8],
 ) -> Sent
-    ensures { λ r. ⌜ (r ≡ sentOf (queryReply q s waiting (now (one .entry)) (now (two .entry))) (length (now (out .entry)))) × (now (out .exit) ≡ over (sentBytes (queryReply q s waiting (now (one .entry)) (now (two .entry))) (length (now (out .entry)))) (now (out .entry))) ⌝ }
+    ensures { λ r. ⌜ Sends (queryReply q s waiting (now (one .entry)) (now (two .entry))) r
+        (now (out .exit)) (now (out .entry)) ⌝ }
 {
     if let QueryArgument::Trace(form, t, bin, count) = q {
         return send_trace(s, form, t, bin, count, one, two, out);
@@ -86,7 +88,8 @@ pub fn send_reply(
     two: &[u32],
     out: &mut [u8],
 ) -> Sent
-    ensures { λ r. ⌜ (r ≡ sentOf (replyOf kind s waiting (now (one .entry)) (now (two .entry))) (length (now (out .entry)))) × (now (out .exit) ≡ over (sentBytes (replyOf kind s waiting (now (one .entry)) (now (two .entry))) (length (now (out .entry)))) (now (out .entry))) ⌝ }
+    ensures { λ r. ⌜ Sends (replyOf kind s waiting (now (one .entry)) (now (two .entry))) r
+        (now (out .exit)) (now (out .entry)) ⌝ }
 {
     let Kind::Query(q) = kind else {
         return nothing();

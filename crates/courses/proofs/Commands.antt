@@ -48,7 +48,7 @@ pub record Sim (model : Model) (b : Both) (s : State) : Type 0 where
 
 -- an effect that isn't refused, and leads where the check goes
 abbrev Follows : Model → Both → Effect → Type 0
-Follows model b e = (e .outcome ≡ outcome.Done) × Sim model b (e .state)
+Follows model b e = (e .report ≡ outcome.Done) × Sim model b (e .after)
 
 -- what the check passes: after *RST what both of its courses allow, before it *RST
 pub kind-done : (b : Both) (kind : Kind) (Goal : Type 0) → kindRefusal kind b ≡ outcome.Done
@@ -71,14 +71,14 @@ kind-done b kind Goal =
 
 -- a command that the state allows is done, or refused by 4
 pub allowed-done : (P : Effect → Type 0) (room : ℕ) (waiting : Bool) (kind : Kind) (s : State) (one two : List ℕ)
-    → allowsOf (s .settings) (s .moving) kind ≡ true → drops (performed room waiting kind s one two .outcome) ≡ false
+    → allowsOf (s .settings) (s .moving) kind ≡ true → drops (performed room waiting kind s one two .report) ≡ false
     → P (doneBy kind (replyOf kind s waiting one two) s one two) → P (performed room waiting kind s one two)
 unfolding performed
 allowed-done P room waiting kind s one two e =
     rw e (by (fitsIn (replyOf kind s waiting one two) room))
   where
     by : (t : Bool)
-        → drops (cond t (doneBy kind (replyOf kind s waiting one two) s one two) (refusedBy NoRoom s one two) .outcome)
+        → drops (cond t (doneBy kind (replyOf kind s waiting one two) s one two) (refusedBy NoRoom s one two) .report)
         ≡ false
         → P (doneBy kind (replyOf kind s waiting one two) s one two)
         → P (cond t (doneBy kind (replyOf kind s waiting one two) s one two) (refusedBy NoRoom s one two))
@@ -146,7 +146,7 @@ module _ (model : Model) (b : Both) (s : State) (i : Sim model b s) where
 
   kind-follows : (room : ℕ) (waiting : Bool) (kind : Kind) (one two : List ℕ) → Sane kind
       → kindRefusal kind b ≡ outcome.Done
-      → drops (performed room waiting kind s one two .outcome) ≡ false
+      → drops (performed room waiting kind s one two .report) ≡ false
       → Follows model (kindAfter model kind b) (performed room waiting kind s one two)
   kind-follows room waiting kind one two k e d =
       let g = kind-within kind k e in
@@ -155,7 +155,7 @@ module _ (model : Model) (b : Both) (s : State) (i : Sim model b s) where
 
   parsed-follows : (room : ℕ) (waiting : Bool) (p : Parsed) (one two : List ℕ) → SaneParsed p
       → textRefusal p b ≡ outcome.Done
-      → drops (commandOf room waiting p s one two .outcome) ≡ false
+      → drops (commandOf room waiting p s one two .report) ≡ false
       → Follows model (textAfter model p b) (commandOf room waiting p s one two)
   unfolding textRefusal textAfter commandOf
   parsed-follows room waiting parsed.Empty one two k e d = (refl, i)
@@ -165,48 +165,48 @@ module _ (model : Model) (b : Both) (s : State) (i : Sim model b s) where
 -- ---- a line's commands
 
 -- a line whose last command isn't refused by 4 goes on after each
-kept-rest : (next rest : Line) → cond (next .dropped) next rest .dropped ≡ false
-    → (next .dropped ≡ false) × (cond (next .dropped) next rest ≡ rest)
-kept-rest next rest = by (next .dropped) refl where
-  by : (t : Bool) → next .dropped ≡ t → cond t next rest .dropped ≡ false
-      → (next .dropped ≡ false) × (cond t next rest ≡ rest)
+kept-rest : (next rest : Line) → cond (next .report .dropped) next rest .report .dropped ≡ false
+    → (next .report .dropped ≡ false) × (cond (next .report .dropped) next rest ≡ rest)
+kept-rest next rest = by (next .report .dropped) refl where
+  by : (t : Bool) → next .report .dropped ≡ t → cond t next rest .report .dropped ≡ false
+      → (next .report .dropped ≡ false) × (cond t next rest ≡ rest)
   by true p e = absurd (false≢true (sym (sym p ∙ e)))
   by false p e = (p, refl)
 
 module _ (room : ℕ) (t : List ℕ) (ts : List (List ℕ)) (l : Line) where
-  pub run-rest : runAll room (t ∷ ts) l .dropped ≡ false
-      → (stepOf room t l .dropped ≡ false) × (runAll room (t ∷ ts) l ≡ runAll room ts (stepOf room t l))
+  pub run-rest : runAll room (t ∷ ts) l .report .dropped ≡ false
+      → (stepOf room t l .report .dropped ≡ false) × (runAll room (t ∷ ts) l ≡ runAll room ts (stepOf room t l))
   unfolding runAll
   run-rest = kept-rest (stepOf room t l) (runAll room ts (stepOf room t l))
 
 -- the effect of a line's next command
 abbrev pub effectIn : ℕ → List ℕ → Line → Effect
-effectIn room t l = commandOf (room - length (l .out)) (waits (l .out)) (parsedOf t) (l .state) (l .one) (l .two)
+effectIn room t l = commandOf (room - length (l .out)) (waits (l .out)) (parsedOf t) (l .after) (l .one) (l .two)
 
-pub step-passed : (room : ℕ) (t : List ℕ) (l : Line) → l .answer ≡ Passed → effectIn room t l .outcome ≡ outcome.Done
-    → stepOf room t l .answer ≡ Passed
+pub step-passed : (room : ℕ) (t : List ℕ) (l : Line) → l .report .answer ≡ Passed → effectIn room t l .report ≡ outcome.Done
+    → stepOf room t l .report .answer ≡ Passed
 unfolding stepOf afterOf
 step-passed room t l e f = rw (e, f) (unfold firstOf in refl)
 
-pub step-refused : (room : ℕ) (t : List ℕ) (l : Line) (r : Refusal) → l .answer ≡ Passed
-    → effectIn room t l .outcome ≡ outcome.Refused r
-    → stepOf room t l .answer ≡ Refused r (l .count + 1)
+pub step-refused : (room : ℕ) (t : List ℕ) (l : Line) (r : Refusal) → l .report .answer ≡ Passed
+    → effectIn room t l .report ≡ outcome.Refused r
+    → stepOf room t l .report .answer ≡ Refused r (l .report .count + 1)
 unfolding stepOf afterOf
 step-refused room t l r e f = rw (e, f) (unfold firstOf in refl)
 
 -- the first refusal stays
-pub run-refused : (room : ℕ) (ts : List (List ℕ)) (l : Line) (r : Refusal) (p : ℕ) → l .answer ≡ Refused r p
-    → runAll room ts l .answer ≡ Refused r p
+pub run-refused : (room : ℕ) (ts : List (List ℕ)) (l : Line) (r : Refusal) (p : ℕ) → l .report .answer ≡ Refused r p
+    → runAll room ts l .report .answer ≡ Refused r p
 unfolding runAll
 run-refused room [] l r p e = e
 run-refused room (t ∷ ts) l r p e =
-    by (stepOf room t l .dropped) (run-refused room ts (stepOf room t l) r p step)
+    by (stepOf room t l .report .dropped) (run-refused room ts (stepOf room t l) r p step)
   where
-    step : stepOf room t l .answer ≡ Refused r p
+    step : stepOf room t l .report .answer ≡ Refused r p
     step = unfold stepOf afterOf in rw e (unfold firstOf in refl)
 
-    by : (d : Bool) → runAll room ts (stepOf room t l) .answer ≡ Refused r p
-        → cond d (stepOf room t l) (runAll room ts (stepOf room t l)) .answer ≡ Refused r p
+    by : (d : Bool) → runAll room ts (stepOf room t l) .report .answer ≡ Refused r p
+        → cond d (stepOf room t l) (runAll room ts (stepOf room t l)) .report .answer ≡ Refused r p
     by true q = step
     by false q = q
 
@@ -215,53 +215,53 @@ outcome-split : (o : Outcome) (Goal : Type 0) → (o ≡ outcome.Done → Goal)
 outcome-split outcome.Done G f g = f refl
 outcome-split (outcome.Refused r) G f g = g r refl
 
-pub count-step : (room : ℕ) (t : List ℕ) (l : Line) → stepOf room t l .count ≡ l .count + 1
+pub count-step : (room : ℕ) (t : List ℕ) (l : Line) → stepOf room t l .report .count ≡ l .report .count + 1
 unfolding stepOf afterOf
 count-step room t l = refl
 
 -- a refusal's place is behind what passed
-place-behind : (room : ℕ) (ts : List (List ℕ)) (l : Line) (r : Refusal) (p : ℕ) → l .answer ≡ Passed
-    → runAll room ts l .dropped ≡ false
-    → runAll room ts l .answer ≡ Refused r p → l .count + 1 ≤ p
+place-behind : (room : ℕ) (ts : List (List ℕ)) (l : Line) (r : Refusal) (p : ℕ) → l .report .answer ≡ Passed
+    → runAll room ts l .report .dropped ≡ false
+    → runAll room ts l .report .answer ≡ Refused r p → l .report .count + 1 ≤ p
 place-behind room [] l r p e d f =
-    let g : l .answer ≡ Refused r p = unfold runAll in f in
+    let g : l .report .answer ≡ Refused r p = unfold runAll in f in
     not-passed r p (sym g ∙ e)
 place-behind room (t ∷ ts) l r p e d f =
     let next = stepOf room t l in
     let rest = run-rest room t ts l d in
-    let on : runAll room ts next .answer ≡ Refused r p = rw (rest .1) at f in
-    outcome-split (effectIn room t l .outcome) (l .count + 1 ≤ p)
+    let on : runAll room ts next .report .answer ≡ Refused r p = rw (rest .1) at f in
+    outcome-split (effectIn room t l .report) (l .report .count + 1 ≤ p)
     (λ q.
     let n = place-behind room ts next r p (step-passed room t l e q) (rw (rest .1) at d) on in
     omega (arith, n, count-step room t l))
     (λ s q.
-    let z : Refused s (l .count + 1) ≡ Refused r p = sym
-    (run-refused room ts next s (l .count + 1) (step-refused room t l s e q)) ∙ on in
-    let y : l .count + 1 ≡ p = cc in
+    let z : Refused s (l .report .count + 1) ≡ Refused r p = sym
+    (run-refused room ts next s (l .report .count + 1) (step-refused room t l s e q)) ∙ on in
+    let y : l .report .count + 1 ≡ p = cc in
     omega arith)
 
 -- what the check passes
-step-follows : (model : Model) (room : ℕ) (t : List ℕ) (l : Line) (b : Both) → Sim model b (l .state)
+step-follows : (model : Model) (room : ℕ) (t : List ℕ) (l : Line) (b : Both) → Sim model b (l .after)
     → textRefusal (parsedOf t) b ≡ outcome.Done
-    → stepOf room t l .dropped ≡ false
-    → (effectIn room t l .outcome ≡ outcome.Done) × Sim model (textAfter model (parsedOf t) b) (stepOf room t l .state)
+    → stepOf room t l .report .dropped ≡ false
+    → (effectIn room t l .report ≡ outcome.Done) × Sim model (textAfter model (parsedOf t) b) (stepOf room t l .after)
 unfolding stepOf afterOf
 step-follows model room t l b i e d =
-    parsed-follows model b (l .state) i (room - length (l .out)) (waits (l .out)) (parsedOf t) (l .one) (l .two)
+    parsed-follows model b (l .after) i (room - length (l .out)) (waits (l .out)) (parsedOf t) (l .one) (l .two)
     (parsed-sane t) e d
 
-pub run-passed : (model : Model) (room : ℕ) (ts : List (List ℕ)) (l : Line) (b : Both) → Sim model b (l .state)
-    → l .answer ≡ Passed
-    → runAll room ts l .dropped ≡ false → textsAnswer model (l .count + 1) ts b ≡ Passed
-    → (runAll room ts l .answer ≡ Passed) × Sim model (textsAfter model ts b) (runAll room ts l .state)
+pub run-passed : (model : Model) (room : ℕ) (ts : List (List ℕ)) (l : Line) (b : Both) → Sim model b (l .after)
+    → l .report .answer ≡ Passed
+    → runAll room ts l .report .dropped ≡ false → textsAnswer model (l .report .count + 1) ts b ≡ Passed
+    → (runAll room ts l .report .answer ≡ Passed) × Sim model (textsAfter model ts b) (runAll room ts l .after)
 unfolding textsAfter
 run-passed model room [] l b i e d f = unfold runAll in (e, i)
 run-passed model room (t ∷ ts) l b i e d f =
     let next = stepOf room t l in
     let rest = run-rest room t ts l d in
     let q =
-    answer-passed (textRefusal (parsedOf t) b) (l .count + 1)
-    (textsAnswer model (l .count + 1 + 1) ts (textAfter model (parsedOf t) b))
+    answer-passed (textRefusal (parsedOf t) b) (l .report .count + 1)
+    (textsAnswer model (l .report .count + 1 + 1) ts (textAfter model (parsedOf t) b))
     (unfold textsAnswer in f)
     in
     let k = step-follows model room t l b i (q .0) (rest .0) in
@@ -274,15 +274,15 @@ run-passed model room (t ∷ ts) l b i e d f =
 
 -- where the check refuses one
 pub run-earlier : (model : Model) (room : ℕ) (ts : List (List ℕ)) (l : Line) (b : Both) (r s : Refusal) (p q : ℕ)
-    → Sim model b (l .state) → l .answer ≡ Passed
-    → runAll room ts l .dropped ≡ false → textsAnswer model (l .count + 1) ts b ≡ Refused r p
-    → runAll room ts l .answer ≡ Refused s q → p ≤ q
+    → Sim model b (l .after) → l .report .answer ≡ Passed
+    → runAll room ts l .report .dropped ≡ false → textsAnswer model (l .report .count + 1) ts b ≡ Refused r p
+    → runAll room ts l .report .answer ≡ Refused s q → p ≤ q
 run-earlier model room [] l b r s p q i e d f g = not-passed r p (sym (unfold textsAnswer in f))
 run-earlier model room (t ∷ ts) l b r s p q i e d f g =
     let next = stepOf room t l in
     let rest = run-rest room t ts l d in
-    answer-split (textRefusal (parsedOf t) b) (l .count + 1)
-    (textsAnswer model (l .count + 1 + 1) ts (textAfter model (parsedOf t) b)) p r (p ≤ q)
+    answer-split (textRefusal (parsedOf t) b) (l .report .count + 1)
+    (textsAnswer model (l .report .count + 1 + 1) ts (textAfter model (parsedOf t) b)) p r (p ≤ q)
     (unfold textsAnswer in f)
     (λ z h.
     let k = step-follows model room t l b i z (rest .0) in

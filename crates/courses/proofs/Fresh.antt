@@ -12,7 +12,8 @@ use Rattle.refusal.specs.declared.Outcome.the-variants.{Done, Refused}
 use Rattle.settings.specs.Table.{table, startSettings}
 use Rattle.state.specs.State.{startState}
 use Rattle.state.specs.declared.Unit.{Unit as ModuleUnit}
-use Rattle.module.specs.Start.{unitKnown, tracesFit, freshModule, startOf}
+use Rattle.module.specs.Start.{unitKnown, tracesFit, freshModule}
+use Rattle.lockin.specs.Start.{startOf}
 use Rattle.two_courses.specs.Model.{modelFits}
 use Rattle.two_courses.specs.declared.Model.{Model}
 use Rattle.demands.specs.Representable.{Every, Word, Byte, ModuleFits}

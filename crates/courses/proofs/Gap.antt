@@ -117,7 +117,7 @@ module _ (model : Model) (x : Settings) (lo hi : Moving) (ready : Ready x hi) (s
   with-storage t l r =
       record { kept = k .between .kept; limit = k .between .limit; external = k .between .external; low = l; high = r }
 
-  tick-within : (one two : List ℕ) → Within model x lo hi (eventOf Tick s one two .state)
+  tick-within : (one two : List ℕ) → Within model x lo hi (eventOf Tick s one two .after)
   unfolding eventOf sampledIn sampledBy tickOf
   tick-within one two =
       let by = samplingOf (s .settings) in
@@ -135,7 +135,7 @@ module _ (model : Model) (x : Settings) (lo hi : Moving) (ready : Ready x hi) (s
   readied-other true b e = absurd (false≢true (sym (b refl) ∙ e))
   readied-other false b e = k .between .high e
 
-  trigger-within : (one two : List ℕ) → Within model x lo hi (eventOf Trigger s one two .state)
+  trigger-within : (one two : List ℕ) → Within model x lo hi (eventOf Trigger s one two .after)
   unfolding eventOf sampledIn sampledBy triggerOf
   trigger-within one two =
       let by = samplingOf x in
@@ -179,7 +179,7 @@ module _ (model : Model) (x : Settings) (lo hi : Moving) (ready : Ready x hi) (s
   quiet-within true t w = w
   quiet-within false t w = k
 
-  pub event-within : (e : Event) (one two : List ℕ) → Within model x lo hi (eventOf e s one two .state)
+  pub event-within : (e : Event) (one two : List ℕ) → Within model x lo hi (eventOf e s one two .after)
   event-within (Latest w v) one two =
       unfold eventOf pairTaken in
       quiet-within (keepsLatest (pairOf w v)) _ (record { same = k .same; alike = k .alike; between = k .between })

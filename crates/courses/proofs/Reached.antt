@@ -74,7 +74,7 @@ module _ (model : Model) (b : Both) (l : List ℕ) where
       rw (s .1) (at-run d model room (textsOf l) run (gapOf model b) 1 i (sym (s .2) ∙ c) (p .1))
 
   line-refuses : (r : Refusal) (p : ℕ) → lineAnswer model l b ≡ Refused r p → r ≢ NoReset → r ≢ LongScriptLine
-      → (d : Side) × Ran d (λ w room. lineIn room l w .told .answer ≡ Refused r p)
+      → (d : Side) × Ran d (λ w room. lineIn room l w .report .answer ≡ Refused r p)
   unfolding lineOf
   line-refuses r p e x y =
       let q = refused-short model l b r p y e in

@@ -49,8 +49,8 @@ use Rattle.state.proofs.Sound.{sound}
 use Rattle.line.specs.Perform.{Effect, refusedBy, doneBy, performed, commandOf}
 use Rattle.line.specs.Line.{Line, waits, afterOf, stepOf, runAll, startLine, lineOf}
 use Rattle.script.proofs.Parts.{parts-length}
-use Rattle.lockin.specs.Calls as calls
-use Rattle.lockin.specs.Calls.{Call, guarded, wholeLine, lineCall}
+use Rattle.queue.specs.declared.Ended.the-variants as ended
+use Rattle.lockin.specs.Calls.{guarded, lineEnd, wholeEnd, wholeLine, lineCall}
 use Rattle.demands.proofs.Again.{kept-size}
 use Rattle.demands.proofs.Sane.{SaneParsed, parsed-sane}
 use Rattle.demands.proofs.States.{states-stay}
@@ -171,9 +171,9 @@ small r h = ne-eqb (meaningOf r .number) 4 (λ e. omega arith)
 
 -- in a room for the longest reply nothing is refused by 4
 record Fits (e : Effect) : Type 0 where
-  kept : drops (e .outcome) ≡ false
+  kept : drops (e .report) ≡ false
   short : length (e .out) ≤ most
-  sized : Sized (e .state)
+  sized : Sized (e .after)
 
 command-fits : (room : ℕ) (waiting : Bool) (p : Parsed) (s : State) (one two : List ℕ) → SaneParsed p
     → allowedState s ≡ true → Sized s → most ≤ room → Fits (commandOf room waiting p s one two)
@@ -205,35 +205,36 @@ cond-rest false next rest P e d = d
 
 -- the line after one more command
 record Goes (room : ℕ) (t : List ℕ) (l : Line) : Type 0 where
-  allowed : allowedState (stepOf room t l .state) ≡ true
-  sized : Sized (stepOf room t l .state)
-  kept : stepOf room t l .dropped ≡ false
+  allowed : allowedState (stepOf room t l .after) ≡ true
+  sized : Sized (stepOf room t l .after)
+  kept : stepOf room t l .report .dropped ≡ false
   short : length (stepOf room t l .out) ≤ length (l .out) + most
 
-step-fits : (room : ℕ) (t : List ℕ) (l : Line) → allowedState (l .state) ≡ true → Sized (l .state)
+step-fits : (room : ℕ) (t : List ℕ) (l : Line) → allowedState (l .after) ≡ true → Sized (l .after)
     → length (l .out) + most ≤ room → Goes room t l
 unfolding stepOf afterOf
 step-fits room t l a k h =
     let left = room - length (l .out) in
     let c =
-    command-fits left (waits (l .out)) (parsedOf t) (l .state) (l .one) (l .two) (parsed-sane t) a k (omega arith)
+    command-fits left (waits (l .out)) (parsedOf t) (l .after) (l .one) (l .two) (parsed-sane t) a k (omega arith)
     in
     record {
-      allowed = states-stay .command left (waits (l .out)) t (l .state) (l .one) (l .two) .allowed a;
+      allowed = states-stay .command left (waits (l .out)) t (l .after) (l .one) (l .two) .allowed a;
       sized = c .sized;
       kept = c .kept;
       short = rw (length-append) (omega (arith, c .short));
     }
 
-run-fits : (room : ℕ) (ts : List (List ℕ)) (l : Line) → allowedState (l .state) ≡ true → Sized (l .state)
-    → l .dropped ≡ false → length (l .out) + length ts * most ≤ room
-    → (runAll room ts l .dropped ≡ false) × Sized (runAll room ts l .state)
+run-fits : (room : ℕ) (ts : List (List ℕ)) (l : Line) → allowedState (l .after) ≡ true → Sized (l .after)
+    → l .report .dropped ≡ false → length (l .out) + length ts * most ≤ room
+    → (runAll room ts l .report .dropped ≡ false) × Sized (runAll room ts l .after)
 unfolding runAll
 run-fits room [] l a k e h = (e, k)
 run-fits room (t ∷ ts) l a k e h =
     let g = step-fits room t l a k (omega arith) in
     let next = stepOf room t l in
-    cond-rest (next .dropped) next (runAll room ts next) (λ (x : Line). (x .dropped ≡ false) × Sized (x .state))
+    cond-rest (next .report .dropped) next (runAll room ts next)
+    (λ (x : Line). (x .report .dropped ≡ false) × Sized (x .after))
     (g .kept) (run-fits room ts next (g .allowed) (g .sized) (g .kept) (omega (arith, g .short)))
 
 -- a line of at most 256 bytes has at most 257 commands: room for that many of the longest replies
@@ -244,7 +245,7 @@ module _ (l : List ℕ) (w : World) (o : Open w) (k : Sized (w .core .state)) wh
   ran : Line
   ran = lineOf enough l (w .core .state) (w .one) (w .two)
 
-  short-fits : length l ≤ 256 → (ran .dropped ≡ false) × Sized (ran .state)
+  short-fits : length l ≤ 256 → (ran .report .dropped ≡ false) × Sized (ran .after)
   unfolding ran lineOf
   short-fits h =
       run-fits enough (textsOf l) (startLine (w .core .state) (w .one) (w .two)) (open-allowed w o) k refl
@@ -253,17 +254,15 @@ module _ (l : List ℕ) (w : World) (o : Open w) (k : Sized (w .core .state)) wh
   pub room-enough : crowded enough l w ≡ false
   unfolding crowded ran
   room-enough = by (leb (length l) 256) refl where
-    by : (t : Bool) → leb (length l) 256 ≡ t → cond t (ran .dropped) false ≡ false
+    by : (t : Bool) → leb (length l) 256 ≡ t → cond t (ran .report .dropped) false ≡ false
     by true e = short-fits (leb-true (length l) 256 e) .0
     by false e = refl
 
   -- a line that is too long sets its bit
   pub line-sized : Sized (afterLine enough l w .core .state)
-  unfolding afterLine lineCall guarded wholeLine ran
+  unfolding afterLine lineCall guarded wholeLine wholeEnd lineEnd ran
   line-sized = rw o (by (leb (length l) 256) refl) where
-    long : Call
-    long = calls.tooLong (w .core) (w .core .queue) (w .one) (w .two)
-
-    by : (t : Bool) → leb (length l) 256 ≡ t → Sized (cond t (calls.ran ran (w .core .queue)) long .after .state)
+    by : (t : Bool) → leb (length l) 256 ≡ t →
+        Sized (lineEnd (cond t ended.Line ended.TooLong) enough l (w .core .state) (w .one) (w .two) .after)
     by true e = short-fits (leb-true (length l) 256 e) .1
     by false e = marked-sized LongLine (w .core .state) k

@@ -234,12 +234,12 @@ marked-sized r s k =
     }
 
 -- a trigger, and a measured frequency
-pub trigger-sized : (s : State) (one two : List ℕ) → Sized s → Sized (eventOf event.Trigger s one two .state)
+pub trigger-sized : (s : State) (one two : List ℕ) → Sized s → Sized (eventOf event.Trigger s one two .after)
 unfolding eventOf sampledIn
 trigger-sized s one two k = triggered-sized s k
 
 pub measured-sized : (f : ℕ) (s : State) (one two : List ℕ) → Sized s
-    → Sized (eventOf (event.Measured f) s one two .state)
+    → Sized (eventOf (event.Measured f) s one two .after)
 unfolding eventOf measuredBy
 measured-sized f s one two k = by (isInternal (s .settings)) (takesFrequency s f) where
   taken : State

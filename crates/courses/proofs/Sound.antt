@@ -19,7 +19,7 @@ use Rattle.line.specs.Line.{Line, startLine, lineOf}
 use Rattle.clean.specs.Texts.{textsOf}
 use Rattle.refusal.specs.declared.Answer.the-variants.{Passed, Refused}
 use Rattle.module.specs.Module.{allowedModule, guardOf}
-use Rattle.lockin.specs.Calls.{guarded, wholeLine, lineCall, guardedEvent, eventCall}
+use Rattle.lockin.specs.Calls.{guarded, lineEnd, wholeEnd, wholeLine, lineCall, eventCall}
 use Rattle.two_courses.specs.declared.Model.{Model}
 use Rattle.two_courses.specs.Courses.{gapOf}
 use Rattle.two_courses.specs.declared.Both.{Both}
@@ -54,19 +54,19 @@ module _ (w : World) (o : Open w) where
   event-open e = stays-allowed .event e (w .core) (w .one) (w .two) .next o
 
   -- then an event is taken, and a line runs or is too long
-  pub event-is : (e : Event) → afterEvent e w .core .state ≡ eventOf e (w .core .state) (w .one) (w .two) .state
-  unfolding afterEvent eventCall guardedEvent
+  pub event-is : (e : Event) → afterEvent e w .core .state ≡ eventOf e (w .core .state) (w .one) (w .two) .after
+  unfolding afterEvent eventCall guarded
   event-is e = rw o refl
 
   pub line-short : (room : ℕ) (l : List ℕ) → tooLong l ≡ false →
       let ran = lineOf room l (w .core .state) (w .one) (w .two) in
-      (lineIn room l w .told .answer ≡ ran .answer) × (afterLine room l w .core .state ≡ ran .state)
-      × (crowded room l w ≡ ran .dropped)
-  unfolding afterLine lineCall guarded wholeLine crowded
+      (lineIn room l w .report .answer ≡ ran .report .answer) × (afterLine room l w .core .state ≡ ran .after)
+      × (crowded room l w ≡ ran .report .dropped)
+  unfolding afterLine lineCall guarded wholeLine wholeEnd lineEnd crowded
   line-short room l e = rw (o, le-leb (length l) 256 (ltb-false 256 (length l) e)) (refl, refl, refl)
 
-  pub line-long : (room : ℕ) (l : List ℕ) → tooLong l ≡ true → lineIn room l w .told .answer ≡ Refused LongLine 0
-  unfolding lineCall guarded wholeLine
+  pub line-long : (room : ℕ) (l : List ℕ) → tooLong l ≡ true → lineIn room l w .report .answer ≡ Refused LongLine 0
+  unfolding lineCall guarded wholeLine wholeEnd lineEnd
   line-long room l e = rw (o, lt-leb (length l) 256 (ltb-true 256 (length l) e)) refl
 
 pub events-open : (es : List Event) (w : World) → Open w → Open (afterEvents es w)
@@ -119,11 +119,11 @@ module _ (model : Model) (b : Both) (w : World) (o : Open w) (i : Sim model b (w
     abbrev begin : Line
     begin = startLine (before g w .core .state) (before g w .one) (before g w .two)
 
-    sim-before : Sim model (gapOf model b) (begin .state)
+    sim-before : Sim model (gapOf model b) (begin .after)
     sim-before = sim-gap model b (g .events) w o i
 
     next-passed : lineAnswer model l b ≡ Passed
-        → (lineIn (g .room) l (before g w) .told .answer ≡ Passed)
+        → (lineIn (g .room) l (before g w) .report .answer ≡ Passed)
         × Sim model (lineAfter model l b) (after g l w .core .state)
     unfolding lineOf
     next-passed e =
@@ -133,7 +133,7 @@ module _ (model : Model) (b : Both) (w : World) (o : Open w) (i : Sim model b (w
         (run-passed model (g .room) (textsOf l) begin (gapOf model b) sim-before refl (sym (s .2) ∙ c) (p .1))
 
     next-earlier : (r s : Refusal) (p q : ℕ) → lineAnswer model l b ≡ Refused r p
-        → lineIn (g .room) l (before g w) .told .answer ≡ Refused s q → p ≤ q
+        → lineIn (g .room) l (before g w) .report .answer ≡ Refused s q → p ≤ q
     unfolding lineOf
     next-earlier r s p q e f =
         refused-split model l b r p (p ≤ q) e (λ t z y. omega arith)

@@ -110,14 +110,14 @@ module _ (d : Side) (model : Model) (b : Both) (s : State) (i : At d model b s) 
       }
 
   at-parsed : (room : ℕ) (waiting : Bool) (p : Parsed) (one two : List ℕ) → textRefusal p b ≡ outcome.Done
-      → drops (commandOf room waiting p s one two .outcome) ≡ false
-      → (commandOf room waiting p s one two .outcome ≡ outcome.Done)
-      × At d model (textAfter model p b) (commandOf room waiting p s one two .state)
+      → drops (commandOf room waiting p s one two .report) ≡ false
+      → (commandOf room waiting p s one two .report ≡ outcome.Done)
+      × At d model (textAfter model p b) (commandOf room waiting p s one two .after)
   unfolding textRefusal textAfter commandOf
   at-parsed room waiting parsed.Empty one two e f = (refl, i)
   at-parsed room waiting (parsed.Refused r) one two e f = not-done _ e
   at-parsed room waiting (parsed.Taken c) one two e f =
-      allowed-done (λ t. (t .outcome ≡ outcome.Done) × At d model (kindAfter model (c .kind) b) (t .state)) room waiting
+      allowed-done (λ t. (t .report ≡ outcome.Done) × At d model (kindAfter model (c .kind) b) (t .after)) room waiting
       (c .kind) s one two
       (state-allows (c .kind) ∙ side-allows d b (c .kind) e) f (unfold doneBy in (refl, at-after (c .kind)))
 
@@ -125,7 +125,7 @@ module _ (d : Side) (model : Model) (b : Both) (s : State) (i : At d model b s) 
 abbrev Refuses : Model → Both → Parsed → Refusal → Side → Type 0
 Refuses model b p r d =
     (s : State) → At d model b s → (room : ℕ) (waiting : Bool) (one two : List ℕ)
-    → commandOf room waiting p s one two .outcome ≡ outcome.Refused r
+    → commandOf room waiting p s one two .report ≡ outcome.Refused r
 
 not-allowed : (model : Model) (b : Both) (c : Kind) (d : Side) → allowsOf (b .settings) (side d b) c ≡ false
     → Refuses model b (parsed.Taken (record { kind = c })) NotAllowed d
@@ -164,18 +164,18 @@ parsed-refuses model b (parsed.Taken c) r e n =
 
 -- ---- a line's commands
 
-at-step : (d : Side) (model : Model) (room : ℕ) (t : List ℕ) (l : Line) (b : Both) → At d model b (l .state)
+at-step : (d : Side) (model : Model) (room : ℕ) (t : List ℕ) (l : Line) (b : Both) → At d model b (l .after)
     → textRefusal (parsedOf t) b ≡ outcome.Done
-    → stepOf room t l .dropped ≡ false
-    → (effectIn room t l .outcome ≡ outcome.Done) × At d model (textAfter model (parsedOf t) b) (stepOf room t l .state)
+    → stepOf room t l .report .dropped ≡ false
+    → (effectIn room t l .report ≡ outcome.Done) × At d model (textAfter model (parsedOf t) b) (stepOf room t l .after)
 unfolding stepOf afterOf
 at-step d model room t l b i e f =
-    at-parsed d model b (l .state) i (room - length (l .out)) (waits (l .out)) (parsedOf t) (l .one) (l .two) e f
+    at-parsed d model b (l .after) i (room - length (l .out)) (waits (l .out)) (parsedOf t) (l .one) (l .two) e f
 
 pub at-run : (d : Side) (model : Model) (room : ℕ) (ts : List (List ℕ)) (l : Line) (b : Both) (p : ℕ)
-    → At d model b (l .state)
-    → runAll room ts l .dropped ≡ false → textsAnswer model p ts b ≡ Passed
-    → At d model (textsAfter model ts b) (runAll room ts l .state)
+    → At d model b (l .after)
+    → runAll room ts l .report .dropped ≡ false → textsAnswer model p ts b ≡ Passed
+    → At d model (textsAfter model ts b) (runAll room ts l .after)
 unfolding textsAfter
 at-run d model room [] l b p i c e = unfold runAll in i
 at-run d model room (t ∷ ts) l b p i c e =
@@ -188,9 +188,9 @@ at-run d model room (t ∷ ts) l b p i c e =
 
 abbrev RunRefuses : Model → Both → ℕ → List (List ℕ) → Refusal → ℕ → Side → Type 0
 RunRefuses model b n ts r p d =
-    (room : ℕ) (l : Line) → l .count ≡ n → l .answer ≡ Passed → At d model b (l .state)
-    → runAll room ts l .dropped ≡ false
-    → runAll room ts l .answer ≡ Refused r p
+    (room : ℕ) (l : Line) → l .report .count ≡ n → l .report .answer ≡ Passed → At d model b (l .after)
+    → runAll room ts l .report .dropped ≡ false
+    → runAll room ts l .report .answer ≡ Refused r p
 
 pub run-refuses : (model : Model) (b : Both) (n : ℕ) (ts : List (List ℕ)) (r : Refusal) (p : ℕ)
     → textsAnswer model (n + 1) ts b ≡ Refused r p
@@ -216,7 +216,7 @@ run-refuses model b n (t ∷ ts) r p e z =
       λ room l m a i c.
           let rest = run-rest room t ts l c in
           let k = step-refused room t l r a
-          ((w .1) (l .state) i (room - length (l .out)) (waits (l .out)) (l .one) (l .two)) in
+          ((w .1) (l .after) i (room - length (l .out)) (waits (l .out)) (l .one) (l .two)) in
           rw (rest .1) (run-refused room ts (stepOf room t l) r p
           (k ∙ ap (λ (x : ℕ). Refused r x) (ap (λ (x : ℕ). x + 1) m ∙ g))),
     ))
@@ -275,7 +275,7 @@ module _ (x : Settings) (s : State) (a : Alike (s .settings) x) (k : keepsAll (s
 
 pub triggered-at : (model : Model) (x : Settings) (s : State) (m : Moving) (one two : List ℕ) → OfModel model (s .unit)
     → Alike (s .settings) x → s .moving ≡ m →
-    let t = eventOf Trigger s one two .state in
+    let t = eventOf Trigger s one two .after in
     (t .unit ≡ s .unit) × Alike (t .settings) x × (t .moving ≡ triggeredHigh (model .capacity) x m)
 unfolding eventOf sampledIn sampledBy triggerOf triggeredHigh
 triggered-at model x s m one two c a e = (refl, a, rw (c .capacity, e, alike-sampling (s .settings) x a) refl)

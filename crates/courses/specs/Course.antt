@@ -13,7 +13,8 @@ use Rattle.refusal.specs.declared.Outcome.{Outcome}
 use Rattle.refusal.specs.declared.Outcome.the-variants.{Done}
 use Rattle.refusal.specs.declared.Answer.{Answer}
 use Rattle.refusal.specs.declared.Answer.the-variants.{Passed}
-use Rattle.module.specs.Start.{unitKnown, startOf}
+use Rattle.module.specs.Start.{unitKnown}
+use Rattle.lockin.specs.Start.{startOf}
 use Rattle.module.specs.Module.{allowedModule}
 use Rattle.module.specs.declared.Module.{Module}
 use Rattle.two_courses.specs.Model.{OfModel}
@@ -99,7 +100,7 @@ after g line w = afterLine (g .room) line (before g w)
 -- whether the room is too small for a line that runs: then 4 refuses a command of it and drops the rest
 unfoldable pub crowded : ℕ → List ℕ → World → Bool
 crowded room line w =
-    cond (leb (length line) lineLimit) (lineOf room line (w .core .state) (w .one) (w .two) .dropped) false
+    cond (leb (length line) lineLimit) (lineOf room line (w .core .state) (w .one) (w .two) .report .dropped) false
 
 -- no room is too small
 abbrev pub Roomy : (ls : List (List ℕ)) → Gaps ls → World → Type 0
@@ -133,7 +134,7 @@ pub record Course (model : Model) (lines : List (List ℕ)) : Type 0 where
 -- the answer of the line at an index, counted from 0
 unfoldable pub answerOf : (ls : List (List ℕ)) → Gaps ls → World → ℕ → Answer
 answerOf [] g w i = Passed
-answerOf (l ∷ ls) g w zero = lineIn (g .0 .room) l (before (g .0) w) .told .answer
+answerOf (l ∷ ls) g w zero = lineIn (g .0 .room) l (before (g .0) w) .report .answer
 answerOf (l ∷ ls) g w (suc i) = answerOf ls (g .1) (after (g .0) l w) i
 
 -- the answer of line n of a course, counted from 1

@@ -24,16 +24,18 @@ use Rattle.event.specs.declared.Event.{Event}
 use Rattle.event.specs.declared.Event.the-variants.{Latest, Tick, Trigger, Measured, Raised}
 use Rattle.event.proofs.Refused.{event-refused}
 use Rattle.queue.specs.Queue as queue
+use Rattle.queue.specs.Parts.{afterRun}
 use Rattle.queue.specs.declared.Queue.{Queue}
 use Rattle.queue.specs.declared.Ended.{Ended}
 use Rattle.queue.specs.declared.Ended.the-variants as ended
-use Rattle.module.specs.Start.{unitKnown, tracesFit, freshModule, refusedStart, startOf}
-use Rattle.module.specs.Module.{allowedModule, guardOf, statusBetween, pollOf}
+use Rattle.module.specs.Start.{unitKnown, tracesFit, freshModule}
+use Rattle.module.specs.Module.{allowedModule, guardOf, statusBetween}
 use Rattle.module.specs.declared.Module.{Module}
-use Rattle.module.specs.declared.Started.{Started}
-use Rattle.module.specs.declared.Polled.{Polled}
-use Rattle.lockin.specs.Calls.{Call, guarded, ran, tooLong, wholeLine, lineCall, endedLine, fedCall, fedByte, byteCall}
-use Rattle.lockin.specs.Calls.{occurred, guardedEvent, eventCall}
+use Rattle.lockin.specs.declared.Started.{Started}
+use Rattle.lockin.specs.declared.Polled.{Polled}
+use Rattle.lockin.specs.Start.{refusedStart, startOf}
+use Rattle.lockin.specs.Calls.{Call, withQueue, guarded, refusedWhole, lineRan, lineEnd, wholeEnd, wholeLine, lineCall}
+use Rattle.lockin.specs.Calls.{fedCall, fedByte, byteCall, eventCall, pollOf}
 use Rattle.demands.specs.Demand1.{FirstRefused, RunsLine, fedTo, RunsWaiting, OnlyQueued, Untouched, OnlyMarked}
 use Rattle.demands.specs.Demand1.{RefusedCall, emptiedAt, RefusedEvent, OfStart, RefusedStart, RefusedPoll}
 use Rattle.demands.specs.Demand1.{RefusedChangesNothing}
@@ -57,7 +59,7 @@ guard-by m first second P d t s =
 -- ---- a line that runs
 
 ran-runs : (room : ℕ) (bytes : List ℕ) (m : Module) (q : Queue) (one two : List ℕ) →
-    RunsLine room bytes m q one two (ran (lineOf room bytes (m .state) one two) q)
+    RunsLine room bytes m q one two (withQueue q (lineRan (lineOf room bytes (m .state) one two)))
 unfolding lineOf
 ran-runs room bytes m q one two =
     let start = startLine (m .state) one two in
@@ -82,7 +84,7 @@ ran-runs room bytes m q one two =
 
 -- its commands' places are counted from 1
 placed-never : {A : Type 0} (room : ℕ) (bytes : List ℕ) (m : Module) (q : Queue) (one two : List ℕ) (c : Call) →
-    RunsLine room bytes m q one two c → (r : Refusal) → c .told .answer ≡ answer.Refused r 0 → A
+    RunsLine room bytes m q one two c → (r : Refusal) → c .report .answer ≡ answer.Refused r 0 → A
 placed-never room bytes m q one two c x r e = absurd (omega (arith, x .placed r 0 e .counted))
 
 nowhere-never : {A : Type 0} (r q : Refusal) (p : ℕ) → answer.Refused r 0 ≡ answer.Refused q (p + 1) → A
@@ -93,31 +95,35 @@ nowhere-never r q p e = let z : 0 ≡ p + 1 = cc in absurd (omega arith)
 module _ (m : Module) (one two : List ℕ) (refusal : Refusal) (q : Queue) where
   -- the promise of a call
   Refuses : Call → Type 0
-  Refuses c = c .told .answer ≡ answer.Refused refusal 0 → RefusedCall m q one two c refusal
+  Refuses c = c .report .answer ≡ answer.Refused refusal 0 → RefusedCall m q one two c refusal
 
-  guarded-refuses : (c : Call) → Refuses c → Refuses (guarded (guardOf m (length one) (length two)) c m one two)
+  -- 11 and 9 refuse it, or it refuses by itself
+  abbrev guardedCall : Outcome → Call → Call
+  guardedCall o c = guarded refusedWhole o c m one two
+
+  guarded-refuses : (c : Call) → Refuses c → Refuses (guardedCall (guardOf m (length one) (length two)) c)
   unfolding guarded Refuses
   guarded-refuses c f =
-      guard-by m (length one) (length two) (λ o. Refuses (guarded o c m one two)) f
+      guard-by m (length one) (length two) (λ o. Refuses (guardedCall o c)) f
       (λ e. let same : BadTraces ≡ refusal = cc in rw (← same) (demand.tracesRefused (same-all BadTraces)))
       (λ e. let same : BadState ≡ refusal = cc in rw (← same) (demand.stateRefused (same-all BadState)))
     where
-      same-all : (r : Refusal) → Untouched m one two (guarded (Refused r) c m one two)
+      same-all : (r : Refusal) → Untouched m one two (guardedCall (Refused r) c)
       same-all r = record { after = refl; first = refl; second = refl; reply = refl; length = refl }
 
-  ran-refuses : (room : ℕ) (bytes : List ℕ) (t : Queue) → Refuses (ran (lineOf room bytes (m .state) one two) t)
-  unfolding Refuses
-  ran-refuses room bytes t =
-      let c = ran (lineOf room bytes (m .state) one two) t in
+  -- what comes of a line's end: 5 alone is told at place 0, and then the queue is q
+  end-refuses : (e : Ended) (room : ℕ) (bytes : List ℕ) (t : Queue) → (e ≡ ended.TooLong → t ≡ q) →
+      Refuses (withQueue t (lineEnd e room bytes (m .state) one two))
+  unfolding lineEnd Refuses
+  end-refuses ended.Nothing room bytes t h = passed-never refusal 0
+  end-refuses ended.Line room bytes t h =
+      let c = withQueue t (lineRan (lineOf room bytes (m .state) one two)) in
       placed-never room bytes m t one two c (ran-runs room bytes m t one two) refusal
-
-  long-refuses : (t : Queue) → t ≡ q → Refuses (tooLong m t one two)
-  unfolding Refuses
-  long-refuses t h e =
+  end-refuses ended.TooLong room bytes t h = λ e.
       let same : LongLine ≡ refusal = cc in
-      let x : OnlyMarked m q one two (tooLong m t one two) = record {
+      let x : OnlyMarked m q one two (withQueue t (lineEnd ended.TooLong room bytes (m .state) one two)) = record {
         marked = marked-only LongLine 0 (m .state) refl;
-        queue = h;
+        queue = h refl;
         first = refl;
         second = refl;
         reply = refl;
@@ -130,13 +136,8 @@ line-refused : (room : ℕ) (bytes : List ℕ) (m : Module) (one two : List ℕ)
 unfolding lineCall wholeLine
 line-refused room bytes m one two refusal =
     let q = m .queue in
-    guarded-refuses m one two refusal q (wholeLine room bytes m one two) (by (leb (length bytes) queue.lineLimit))
-  where
-    by : (t : Bool) →
-        let whole = ran (lineOf room bytes (m .state) one two) (m .queue) in
-        Refuses m one two refusal (m .queue) (cond t whole (tooLong m (m .queue) one two))
-    by true = ran-refuses m one two refusal (m .queue) room bytes (m .queue)
-    by false = long-refuses m one two refusal (m .queue) (m .queue) refl
+    guarded-refuses m one two refusal q (wholeLine room bytes m one two)
+    (end-refuses m one two refusal q (wholeEnd (length bytes)) room bytes q (λ e. refl))
 
 -- the queue after byte 257
 fed-long : (q : Queue) (port b : ℕ) (mark : Bool) → queue.fedOf q port b mark .ended ≡ ended.TooLong
@@ -157,42 +158,42 @@ fed-long q port b mark =
     by false false true false p = never (cc)
     by false false false k p = refl
 
-fed-refuses : (e : Ended) (t : Queue) (room : ℕ) (m : Module) (one two : List ℕ) (refusal : Refusal) (q : Queue) →
-    (e ≡ ended.TooLong → t ≡ q) → Refuses m one two refusal q (fedCall e t room m one two)
-unfolding fedCall endedLine Refuses
-fed-refuses ended.Nothing t room m one two refusal q h = λ e. never (cc)
-fed-refuses ended.Line t room m one two refusal q h =
-    ran-refuses m one two refusal q room (queue.waitingBytes t) (queue.emptiedOf t)
-fed-refuses ended.TooLong t room m one two refusal q h = long-refuses m one two refusal q t (h refl)
+-- where the line was too long the queue stays as the byte left it
+run-long : (e : Ended) (t q : Queue) → (e ≡ ended.TooLong → t ≡ q) → e ≡ ended.TooLong → afterRun e t ≡ q
+run-long ended.Nothing t q h e = never (cc)
+run-long ended.Line t q h e = never (cc)
+run-long ended.TooLong t q h e = h e
 
 byte-refused : (room b : ℕ) (mark : Bool) (m : Module) (one two : List ℕ) (refusal : Refusal) →
     let q = emptiedAt (m .queue) (queue.isMarked (m .state .unit .port) mark) in
     Refuses m one two refusal q (byteCall room b mark m one two)
-unfolding byteCall fedByte
+unfolding byteCall fedByte fedCall
 byte-refused room b mark m one two refusal =
     let port = m .state .unit .port in
     let fed = queue.fedOf (m .queue) port b mark in
     let q = emptiedAt (m .queue) (queue.isMarked port mark) in
     guarded-refuses m one two refusal q (fedByte room b mark m one two)
-    (fed-refuses (fed .ended) (fed .queue) room m one two refusal q (fed-long (m .queue) port b mark))
+    (end-refuses m one two refusal q (fed .ended) room (queue.waitingBytes (fed .queue))
+    (afterRun (fed .ended) (fed .queue))
+    (run-long (fed .ended) (fed .queue) q (fed-long (m .queue) port b mark)))
 
 -- ---- the calls that run a line
 
 module _ (m : Module) (one two : List ℕ) where
   guarded-done : (c : Call) → guardOf m (length one) (length two) ≡ Done →
-      guarded (guardOf m (length one) (length two)) c m one two ≡ c
+      guarded refusedWhole (guardOf m (length one) (length two)) c m one two ≡ c
   unfolding guarded
   guarded-done c g = rw g
 
   -- an answer with a place other than 0 is given only where 11 and 9 do not refuse
   guarded-placed : (P : Call → Type 0) (c : Call) (r : Refusal) (p : ℕ) →
-      (c .told .answer ≡ answer.Refused r (p + 1) → P c) →
-      let d = guarded (guardOf m (length one) (length two)) c m one two in
-      d .told .answer ≡ answer.Refused r (p + 1) → P d
+      (c .report .answer ≡ answer.Refused r (p + 1) → P c) →
+      let d = guarded refusedWhole (guardOf m (length one) (length two)) c m one two in
+      d .report .answer ≡ answer.Refused r (p + 1) → P d
   unfolding guarded
   guarded-placed P c r p f =
       guard-by m (length one) (length two)
-      (λ o. guarded o c m one two .told .answer ≡ answer.Refused r (p + 1) → P (guarded o c m one two))
+      (λ o. let d = guarded refusedWhole o c m one two in d .report .answer ≡ answer.Refused r (p + 1) → P d)
       f (λ e. nowhere-never BadTraces r p e) (λ e. nowhere-never BadState r p e)
 
 line-runs : (room : ℕ) (bytes : List ℕ) (m : Module) (one two : List ℕ) →
@@ -202,20 +203,20 @@ line-runs room bytes m one two g h =
     rw (open-call room bytes m one two g h) (ran-runs room bytes m (m .queue) one two)
 
 line-placed : (room : ℕ) (bytes : List ℕ) (m : Module) (one two : List ℕ) (refusal : Refusal) (p : ℕ) →
-    lineCall room bytes m one two .told .answer ≡ answer.Refused refusal (p + 1) →
+    lineCall room bytes m one two .report .answer ≡ answer.Refused refusal (p + 1) →
     RunsLine room bytes m (m .queue) one two (lineCall room bytes m one two)
 unfolding lineCall wholeLine
 line-placed room bytes m one two r p =
     let q = m .queue in
     guarded-placed m one two (RunsLine room bytes m q one two) (wholeLine room bytes m one two) r p
-    (by (leb (length bytes) queue.lineLimit))
+    (by (wholeEnd (length bytes)))
   where
-    by : (t : Bool) →
-        let whole = ran (lineOf room bytes (m .state) one two) (m .queue) in
-        let c = cond t whole (tooLong m (m .queue) one two) in
-        c .told .answer ≡ answer.Refused r (p + 1) → RunsLine room bytes m (m .queue) one two c
-    by true e = ran-runs room bytes m (m .queue) one two
-    by false e = nowhere-never LongLine r p e
+    by : (e : Ended) →
+        let c = withQueue (m .queue) (lineEnd e room bytes (m .state) one two) in
+        c .report .answer ≡ answer.Refused r (p + 1) → RunsLine room bytes m (m .queue) one two c
+    by ended.Nothing e = unfold lineEnd in passed-never r (p + 1) e
+    by ended.Line e = unfold lineEnd in ran-runs room bytes m (m .queue) one two
+    by ended.TooLong e = unfold lineEnd in nowhere-never LongLine r p e
 
 module _ (room b : ℕ) (mark : Bool) (m : Module) (one two : List ℕ) where
   -- what the byte does where 11 and 9 do not refuse it
@@ -224,17 +225,15 @@ module _ (room b : ℕ) (mark : Bool) (m : Module) (one two : List ℕ) where
   unfolding byteCall fedByte
   fed-is g e h = rw (guarded-done m one two (fedByte room b mark m one two) g, h)
 
-  fed-runs : (q : Queue) →
-      RunsLine room (queue.waitingBytes q) m (queue.emptiedOf q) one two (fedCall ended.Line q room m one two)
-  unfolding fedCall endedLine
-  fed-runs q = ran-runs room (queue.waitingBytes q) m (queue.emptiedOf q) one two
-
   byte-runs : guardOf m (length one) (length two) ≡ Done → fedTo m b mark .ended ≡ ended.Line →
       RunsWaiting room b mark m one two
-  byte-runs g h = rw (fed-is g ended.Line h) (fed-runs (fedTo m b mark .queue))
+  byte-runs g h = rw (fed-is g ended.Line h) (fed-runs (fedTo m b mark .queue)) where
+    fed-runs : (q : Queue) →
+        RunsLine room (queue.waitingBytes q) m (queue.emptiedOf q) one two (fedCall ended.Line q room m one two)
+    fed-runs q = unfold fedCall lineEnd in ran-runs room (queue.waitingBytes q) m (queue.emptiedOf q) one two
 
   fed-waits : (q : Queue) → OnlyQueued m q one two (fedCall ended.Nothing q room m one two)
-  unfolding fedCall
+  unfolding fedCall lineEnd
   fed-waits q =
       record { state = refl; queue = refl; first = refl; second = refl; reply = refl; answer = refl; length = refl }
 
@@ -244,15 +243,15 @@ module _ (room b : ℕ) (mark : Bool) (m : Module) (one two : List ℕ) where
 
   fed-placed : (e : Ended) (q : Queue) (r : Refusal) (p : ℕ) →
       let c = fedCall e q room m one two in
-      c .told .answer ≡ answer.Refused r (p + 1) →
+      c .report .answer ≡ answer.Refused r (p + 1) →
       (e ≡ ended.Line) × RunsLine room (queue.waitingBytes q) m (queue.emptiedOf q) one two c
-  unfolding fedCall
+  unfolding fedCall lineEnd
   fed-placed ended.Nothing q r p e = never (cc)
-  fed-placed ended.Line q r p e = (refl, fed-runs q)
+  fed-placed ended.Line q r p e = (refl, ran-runs room (queue.waitingBytes q) m (queue.emptiedOf q) one two)
   fed-placed ended.TooLong q r p e = nowhere-never LongLine r p e
 
   byte-placed : (refusal : Refusal) (p : ℕ) →
-      byteCall room b mark m one two .told .answer ≡ answer.Refused refusal (p + 1) →
+      byteCall room b mark m one two .report .answer ≡ answer.Refused refusal (p + 1) →
       (fedTo m b mark .ended ≡ ended.Line) × RunsWaiting room b mark m one two
   unfolding byteCall fedByte
   byte-placed r p =
@@ -270,7 +269,7 @@ either-refused true a s r p = never (cc)
 either-refused false a s r p = cc
 
 event-number : (e : Event) (s : State) (one two : List ℕ) (r : Refusal) →
-    eventOf e s one two .outcome ≡ Refused r → r ≡ BadEvent
+    eventOf e s one two .report ≡ Refused r → r ≡ BadEvent
 unfolding eventOf pairTaken bitsRaised sampledIn
 event-number (Latest w v) s one two r p =
     either-refused (keepsLatest (pairOf w v)) (withLatest (pairOf w v) s) s r p
@@ -281,12 +280,12 @@ event-number (Raised lia errors) s one two r p =
     either-refused (mayRaise lia errors) (withRegisters (withRaised (s .registers) lia errors) s) s r p
 
 call-refused : (e : Event) (m : Module) (one two : List ℕ) (refusal : Refusal) →
-    eventCall e m one two .outcome ≡ Refused refusal → RefusedEvent refusal m one two (eventCall e m one two)
-unfolding eventCall guardedEvent
+    eventCall e m one two .report ≡ Refused refusal → RefusedEvent refusal m one two (eventCall e m one two)
+unfolding eventCall guarded
 call-refused e m one two r =
-    let o = occurred (eventOf e (m .state) one two) (m .queue) in
+    let o = withQueue (m .queue) (eventOf e (m .state) one two) in
     guard-by m (length one) (length two)
-    (λ g. guardedEvent g o m one two .outcome ≡ Refused r → RefusedEvent r m one two (guardedEvent g o m one two))
+    (λ g. let c = guarded Refused g o m one two in c .report ≡ Refused r → RefusedEvent r m one two c)
     (λ p.
     let same = event-number e (m .state) one two r p in
     let u = event-refused e (m .state) one two (p ∙ ap Refused same) in

@@ -31,13 +31,14 @@ use Rattle.allow.specs.Allows.{setAllowed, queryAllowed, allowsOf}
 use Rattle.change.specs.Change.{registersAsked, settingsAfter, storageAfter, externalAfter, movingAfter, registersAfter}
 use Rattle.change.specs.Change.{enablesAfter, changedBy, stateAfter}
 use Rattle.reply.specs.Reply.{fitsIn}
+use Rattle.reply.specs.After.{silent}
 use Rattle.answer.specs.Reply.{endedText, queryReply, replyOf}
 use Rattle.reply_text.specs.ReplyText.{valueText, pairText, textOf, endOf}
 use Rattle.line.specs.Perform.{refusedBy, doneBy, performed}
 use Rattle.line.specs.Line.{startLine, afterOf}
 use Rattle.module.specs.Module.{allowedModule, guardOf}
 use Rattle.module.specs.declared.Module.{Module}
-use Rattle.lockin.specs.Calls.{ran, lineCall}
+use Rattle.lockin.specs.Calls.{withQueue, lineRan, lineCall}
 use Rattle.demands.specs.Representable.{StateFits}
 use Rattle.demands.specs.Written.{written}
 use Rattle.demands.specs.Demand2 as claim
@@ -87,7 +88,7 @@ module _ (room : ℕ) (s : State) (one two : List ℕ) where
   -- a set, by whether the state allows it
   set-performed : (a : SetArgument) → performed room false (Set a) s one two
       ≡ cond (setAllowed (s .settings) (s .moving) a)
-      (record { state = stateAfter (Set a) s; one = one; two = two; out = []; outcome = Done })
+      (silent Done (stateAfter (Set a) s) one two)
       (refusedBy NotAllowed s one two)
   unfolding performed allowsOf replyOf fitsIn doneBy storageAfter storedIn
   set-performed a = rw (le-leb 0 room (omega arith)) refl
@@ -244,17 +245,10 @@ module _ (a : Address) (m : Module) (one two : List ℕ) (ready : Ready m one tw
     where
       by : (d : Bool) → setAllowed (t .state .settings) (t .state .moving) (trip .set) ≡ d →
           SentBack (a .holds) (valuesAt (m .state) (a .holds)) t first second
-          (ran (afterOf (startLine (t .state) first second)
+          (withQueue (t .queue) (lineRan (afterOf (startLine (t .state) first second)
           (cond d
-          (record {
-            state = stateAfter (Set (trip .set))
-                (t .state);
-            one = first;
-            two = second;
-            out = [];
-            outcome = Done;
-          })
-          (refusedBy NotAllowed (t .state) first second))) (t .queue))
+          (silent Done (stateAfter (Set (trip .set)) (t .state)) first second)
+          (refusedBy NotAllowed (t .state) first second)))))
       by true e = unfold afterOf firstOf drops in taken _ refl (trip .same (t .state) (other .fits .state))
           (trip .others (t .state))
       by false e = unfold afterOf firstOf drops isNoRoom in refused (trip .refuses (t .state) e)

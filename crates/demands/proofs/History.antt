@@ -215,7 +215,7 @@ module _ (history : History) (s : State) (one two : List ℕ) (h : Holds history
 
   pub event-holds : (e : Event) →
       let o = eventOf e s one two in
-      Holds (afterEvent e s history) (o .state) (o .one) (o .two)
+      Holds (afterEvent e s history) (o .after) (o .one) (o .two)
   unfolding eventOf sampledIn sampledBy afterEvent
   event-holds event.Tick = tick-holds history s (sampledBy (tickOf s) s) one two h f refl refl refl
   event-holds event.Trigger = trigger-holds history s (sampledBy (triggerOf s) s) one two h f refl refl refl
@@ -271,7 +271,7 @@ module _ (history : History) (s : State) (one two : List ℕ) (h : Holds history
 
   act-holds : (a : Action) (reply : List ℕ) →
       let e = doneBy (Act a) reply s one two in
-      Holds (afterAction a s history) (e .state) (e .one) (e .two)
+      Holds (afterAction a s history) (e .after) (e .one) (e .two)
   unfolding doneBy stateAfter changedBy settingsAfter restoredBy sampledBy storageAfter storageBy storedIn triggerOf
       afterAction
   act-holds action.Reset reply = emptied-holds (stateAfter (Act action.Reset) s) one two refl
@@ -289,19 +289,19 @@ module _ (history : History) (s : State) (one two : List ℕ) (h : Holds history
   -- a command that was read; one without arguments is never refused
   kind-holds : (kind : Kind) → Sane kind → (room : ℕ) (waiting : Bool) →
       let e = performed room waiting kind s one two in
-      Holds (afterKind kind s history) (e .state) (e .one) (e .two)
+      Holds (afterKind kind s history) (e .after) (e .one) (e .two)
   unfolding afterKind performed doneBy storageAfter storedIn allowsOf replyOf fitsIn
   kind-holds (Set a) k room waiting =
-      performed-by room waiting s one two (λ (e : Effect). Holds history (e .state) (e .one) (e .two)) (Set a)
+      performed-by room waiting s one two (λ (e : Effect). Holds history (e .after) (e .one) (e .two)) (Set a)
       (λ r n. marked-holds r) (set-holds a k)
   kind-holds (Query q) k room waiting =
-      performed-by room waiting s one two (λ (e : Effect). Holds history (e .state) (e .one) (e .two)) (Query q)
+      performed-by room waiting s one two (λ (e : Effect). Holds history (e .after) (e .one) (e .two)) (Query q)
       (λ r n. marked-holds r) (λ p. query-holds q)
   kind-holds (Act a) k room waiting = rw (le-leb 0 room (omega arith)) (act-holds a [])
 
   text-holds : (p : Parsed) → SaneParsed p → (room : ℕ) (waiting : Bool) →
       let e = commandOf room waiting p s one two in
-      Holds (afterText p s history) (e .state) (e .one) (e .two)
+      Holds (afterText p s history) (e .after) (e .one) (e .two)
   unfolding commandOf afterText
   text-holds parsed.Empty k room waiting = h
   text-holds (parsed.Refused r) k room waiting = marked-holds r
@@ -310,32 +310,32 @@ module _ (history : History) (s : State) (one two : List ℕ) (h : Holds history
 -- ---- lines
 
 module _ (room : ℕ) where
-  step-holds : (text : List ℕ) (l : Line) (history : History) → Fits (l .state) (l .one) (l .two) →
-      Holds history (l .state) (l .one) (l .two) →
+  step-holds : (text : List ℕ) (l : Line) (history : History) → Fits (l .after) (l .one) (l .two) →
+      Holds history (l .after) (l .one) (l .two) →
       let n = stepOf room text l in
-      Holds (afterText (parsedOf text) (l .state) history) (n .state) (n .one) (n .two)
+      Holds (afterText (parsedOf text) (l .after) history) (n .after) (n .one) (n .two)
   unfolding stepOf afterOf
   step-holds text l history f h =
-      text-holds history (l .state) (l .one) (l .two) h f (parsedOf text) (parsed-sane text) (room - length (l .out))
+      text-holds history (l .after) (l .one) (l .two) h f (parsedOf text) (parsed-sane text) (room - length (l .out))
       (waits (l .out))
 
-  step-fits : (text : List ℕ) (l : Line) → Fits (l .state) (l .one) (l .two) →
+  step-fits : (text : List ℕ) (l : Line) → Fits (l .after) (l .one) (l .two) →
       let n = stepOf room text l in
-      Fits (n .state) (n .one) (n .two)
+      Fits (n .after) (n .one) (n .two)
   unfolding stepOf afterOf
   step-fits text l f =
       let n = stepOf room text l in
-      fits-after (l .state) (n .state) (l .one) (l .two) (n .one) (n .two)
-      (states-stay .command (room - length (l .out)) (waits (l .out)) text (l .state) (l .one) (l .two)) f
+      fits-after (l .after) (n .after) (l .one) (l .two) (n .one) (n .two)
+      (states-stay .command (room - length (l .out)) (waits (l .out)) text (l .after) (l .one) (l .two)) f
 
-  run-holds : (texts : List (List ℕ)) (l : Line) (history : History) → Fits (l .state) (l .one) (l .two) →
-      Holds history (l .state) (l .one) (l .two) →
+  run-holds : (texts : List (List ℕ)) (l : Line) (history : History) → Fits (l .after) (l .one) (l .two) →
+      Holds history (l .after) (l .one) (l .two) →
       let n = runAll room texts l in
-      Holds (afterTexts room texts l history) (n .state) (n .one) (n .two)
+      Holds (afterTexts room texts l history) (n .after) (n .one) (n .two)
   unfolding runAll afterTexts
   run-holds [] l history f h = h
   run-holds (text ∷ more) l history f h =
-      by (next .dropped) (run-holds more next now (step-fits text l f) (step-holds text l history f h))
+      by (next .report .dropped) (run-holds more next now (step-fits text l f) (step-holds text l history f h))
     where
       next : Line
       next = stepOf room text l
@@ -344,17 +344,17 @@ module _ (room : ℕ) where
       last = runAll room more next
 
       now : History
-      now = afterText (parsedOf text) (l .state) history
+      now = afterText (parsedOf text) (l .after) history
 
-      by : (t : Bool) → Holds (afterTexts room more next now) (last .state) (last .one) (last .two) →
+      by : (t : Bool) → Holds (afterTexts room more next now) (last .after) (last .one) (last .two) →
           let n = cond t next last in
-          Holds (cond t now (afterTexts room more next now)) (n .state) (n .one) (n .two)
+          Holds (cond t now (afterTexts room more next now)) (n .after) (n .one) (n .two)
       by true p = step-holds text l history f h
       by false p = p
 
   pub line-holds : (line : List ℕ) (s : State) (one two : List ℕ) (history : History) → Fits s one two →
       Holds history s one two →
       let n = lineOf room line s one two in
-      Holds (points.afterLine room line s one two history) (n .state) (n .one) (n .two)
+      Holds (points.afterLine room line s one two history) (n .after) (n .one) (n .two)
   unfolding lineOf
   line-holds line s one two history f h = run-holds (textsOf line) (startLine s one two) history f h

@@ -18,10 +18,10 @@ use Rattle.refusal.specs.declared.Answer.the-variants.{Passed, Refused}
 use Rattle.refusal.specs.Answer.{firstOf, drops}
 use Rattle.command.specs.Parsed.{parsedOf}
 use Rattle.line.specs.Perform.{commandOf}
-use Rattle.line.specs.Line.{Line, waits, startLine, afterOf, stepOf, runAll, lineOf}
+use Rattle.line.specs.Line.{Tally, Line, waits, startLine, afterOf, stepOf, runAll, lineOf}
 use Rattle.module.specs.Module.{guardOf}
 use Rattle.module.specs.declared.Module.{Module}
-use Rattle.lockin.specs.Calls.{ran, lineCall}
+use Rattle.lockin.specs.Calls.{withQueue, lineRan, lineCall}
 use Rattle.demands.specs.Lines.{continued, laterAnswer, later, SeveralCommands}
 use Rattle.demands.proofs.Says.{open-call}
 use Rattle.demands.proofs.StaysAllowed.{stays-allowed}
@@ -75,19 +75,20 @@ texts-append x y =
 -- ---- and runs as they do
 
 module _ (room : ℕ) where
-  run-append : (ts us : List (List ℕ)) (l : Line) → l .dropped ≡ false →
+  run-append : (ts us : List (List ℕ)) (l : Line) → l .report .dropped ≡ false →
       let r = runAll room ts l in
-      runAll room (ts ++ us) l ≡ cond (r .dropped) r (runAll room us r)
+      runAll room (ts ++ us) l ≡ cond (r .report .dropped) r (runAll room us r)
   unfolding runAll
   run-append [] us l passes = rw passes refl
   run-append (t ∷ ts) us l passes =
-      by (stepOf room t l) (stepOf room t l .dropped) refl (run-append ts us (stepOf room t l)) where
-        by : (next : Line) (d : Bool) → next .dropped ≡ d →
-            (next .dropped ≡ false →
+      by (stepOf room t l) (stepOf room t l .report .dropped) refl (run-append ts us (stepOf room t l)) where
+        by : (next : Line) (d : Bool) → next .report .dropped ≡ d →
+            (next .report .dropped ≡ false →
             runAll room (ts ++ us) next
-            ≡ cond (runAll room ts next .dropped) (runAll room ts next) (runAll room us (runAll room ts next))) →
+            ≡ cond (runAll room ts next .report .dropped) (runAll room ts next)
+            (runAll room us (runAll room ts next))) →
             let r = cond d next (runAll room ts next) in
-            cond d next (runAll room (ts ++ us) next) ≡ cond (r .dropped) r (runAll room us r)
+            cond d next (runAll room (ts ++ us) next) ≡ cond (r .report .dropped) r (runAll room us r)
         by next true e ih = rw e refl
         by next false e ih = ih e
 
@@ -95,13 +96,15 @@ module _ (room : ℕ) where
   abbrev further : ℕ → Line → Line
   further n l =
       record {
-        state = l .state;
+        after = l .after;
         one = l .one;
         two = l .two;
         out = l .out;
-        answer = laterAnswer n (l .answer);
-        count = l .count + n;
-        dropped = l .dropped;
+        report = record {
+          answer = laterAnswer n (l .report .answer);
+          count = l .report .count + n;
+          dropped = l .report .dropped;
+        };
       }
 
   first-further : (n : ℕ) (a : Answer) (o : Outcome) (count : ℕ) →
@@ -114,15 +117,15 @@ module _ (room : ℕ) where
   step-further : (n : ℕ) (t : List ℕ) (l : Line) → stepOf room t (further n l) ≡ further n (stepOf room t l)
   unfolding stepOf afterOf
   step-further n t l =
-      let e = commandOf (room - length (l .out)) (waits (l .out)) (parsedOf t) (l .state) (l .one) (l .two) in
-      let c : l .count + n + 1 ≡ l .count + 1 + n = omega arith in
-      rw (first-further n (l .answer) (e .outcome) (l .count), c) refl
+      let e = commandOf (room - length (l .out)) (waits (l .out)) (parsedOf t) (l .after) (l .one) (l .two) in
+      let c : l .report .count + n + 1 ≡ l .report .count + 1 + n = omega arith in
+      rw (first-further n (l .report .answer) (e .report) (l .report .count), c) refl
 
   run-further : (n : ℕ) (ts : List (List ℕ)) (l : Line) → runAll room ts (further n l) ≡ further n (runAll room ts l)
   unfolding runAll
   run-further n [] l = refl
   run-further n (t ∷ ts) l =
-      rw (step-further n t l) (by (stepOf room t l .dropped) (run-further n ts (stepOf room t l))) where
+      rw (step-further n t l) (by (stepOf room t l .report .dropped) (run-further n ts (stepOf room t l))) where
         by : (d : Bool) → runAll room ts (further n (stepOf room t l)) ≡ further n (runAll room ts (stepOf room t l)) →
             cond d (further n (stepOf room t l)) (runAll room ts (further n (stepOf room t l)))
             ≡ further n (cond d (stepOf room t l) (runAll room ts (stepOf room t l)))
@@ -136,40 +139,52 @@ module _ (room : ℕ) where
   first-passed Passed (outcome.Refused r) n e d = let z : _≡_ {A = ℕ} 0 1 = cc in omega arith
   first-passed (Refused r place) o n e d = let z : _≡_ {A = ℕ} 0 1 = cc in omega arith
 
-  step-passed : (t : List ℕ) (l : Line) → stepOf room t l .answer ≡ Passed → stepOf room t l .dropped ≡ true → ⊥
+  step-passed : (t : List ℕ) (l : Line) → stepOf room t l .report .answer ≡ Passed →
+      stepOf room t l .report .dropped ≡ true → ⊥
   unfolding stepOf afterOf
-  step-passed t l e d = first-passed (l .answer) _ (l .count + 1) e d
+  step-passed t l e d = first-passed (l .report .answer) _ (l .report .count + 1) e d
 
-  step-count : (t : List ℕ) (l : Line) → stepOf room t l .count ≡ l .count + 1
+  step-count : (t : List ℕ) (l : Line) → stepOf room t l .report .count ≡ l .report .count + 1
   unfolding stepOf afterOf
   step-count t l = refl
 
   record Whole (ts : List (List ℕ)) (l r : Line) : Type 0 where
-    passes : r .dropped ≡ false
-    count : r .count ≡ l .count + length ts
+    passes : r .report .dropped ≡ false
+    count : r .report .count ≡ l .report .count + length ts
 
-  run-whole : (ts : List (List ℕ)) (l : Line) → l .dropped ≡ false → runAll room ts l .answer ≡ Passed →
+  run-whole : (ts : List (List ℕ)) (l : Line) → l .report .dropped ≡ false → runAll room ts l .report .answer ≡ Passed →
       Whole ts l (runAll room ts l)
   unfolding runAll
   run-whole [] l passes = λ e. record { passes = passes; count = omega arith }
   run-whole (t ∷ ts) l passes =
-      by (stepOf room t l) (stepOf room t l .dropped) refl (step-passed t l) (step-count t l)
+      by (stepOf room t l) (stepOf room t l .report .dropped) refl (step-passed t l) (step-count t l)
       (run-whole ts (stepOf room t l))
     where
-      by : (next : Line) (d : Bool) → next .dropped ≡ d → (next .answer ≡ Passed → next .dropped ≡ true → ⊥) →
-          next .count ≡ l .count + 1 →
-          (next .dropped ≡ false → runAll room ts next .answer ≡ Passed → Whole ts next (runAll room ts next)) →
-          cond d next (runAll room ts next) .answer ≡ Passed → Whole (t ∷ ts) l (cond d next (runAll room ts next))
+      by : (next : Line) (d : Bool) → next .report .dropped ≡ d →
+          (next .report .answer ≡ Passed → next .report .dropped ≡ true → ⊥) →
+          next .report .count ≡ l .report .count + 1 →
+          (next .report .dropped ≡ false → runAll room ts next .report .answer ≡ Passed →
+          Whole ts next (runAll room ts next)) →
+          cond d next (runAll room ts next) .report .answer ≡ Passed →
+          Whole (t ∷ ts) l (cond d next (runAll room ts next))
       by next true z p c ih e = absurd (p e z)
       by next false z p c ih e =
           let w = ih z e in
           record { passes = w .passes; count = omega (arith, w .count) }
 
   -- a line that has run whole and silently is a new one further on
-  begun : (l : Line) (n : ℕ) → l .out ≡ [] → l .answer ≡ Passed → l .count ≡ 0 + n → l .dropped ≡ false →
-      l ≡ further n (startLine (l .state) (l .one) (l .two))
+  begun : (l : Line) (n : ℕ) → l .out ≡ [] → l .report .answer ≡ Passed → l .report .count ≡ 0 + n →
+      l .report .dropped ≡ false →
+      l ≡ further n (startLine (l .after) (l .one) (l .two))
   begun l n o a c d =
-      λ i. record { state = l .state; one = l .one; two = l .two; out = o i; answer = a i; count = c i; dropped = d i }
+      λ i.
+      record {
+        after = l .after;
+        one = l .one;
+        two = l .two;
+        out = o i;
+        report = record { answer = a i; count = c i; dropped = d i };
+      }
 
 module _ (room : ℕ) (x y : List ℕ) (short : length (x ++ semicolon ∷ y) ≤ 256) (m : Module) (one two : List ℕ)
     (passes : guardOf m (length one) (length two) ≡ Done)
@@ -183,17 +198,17 @@ module _ (room : ℕ) (x y : List ℕ) (short : length (x ++ semicolon ∷ y) �
     short-second : length y ≤ 256
     short-second = omega (arith, length-append x (semicolon ∷ y))
 
-    both : lineCall room (x ++ semicolon ∷ y) m one two ≡ ran (continued room y ranFirst) (m .queue)
+    both : lineCall room (x ++ semicolon ∷ y) m one two ≡ withQueue (m .queue) (lineRan (continued room y ranFirst))
     unfolding lineOf
     both =
         open-call room (x ++ semicolon ∷ y) m one two passes short
-        ∙ ap (λ l. ran l (m .queue))
+        ∙ ap (λ l. withQueue (m .queue) (lineRan l))
         (ap (λ ts. runAll room ts (startLine (m .state) one two)) (texts-append x y)
         ∙ run-append room (textsOf x) (textsOf y) (startLine (m .state) one two) refl)
 
     calls :
         let c = lineCall room x m one two in
-        c .told .answer ≡ Passed → c .out ≡ [] →
+        c .report .answer ≡ Passed → c .out ≡ [] →
         lineCall room (x ++ semicolon ∷ y) m one two
         ≡ later (length (textsOf x)) (lineCall room y (c .after) (c .one) (c .two))
     unfolding lineOf
@@ -205,10 +220,13 @@ module _ (room : ℕ) (x y : List ℕ) (short : length (x ++ semicolon ∷ y) �
         let guard =
         rw (open-call room x m one two passes short-first) at (stays-allowed .line room x m one two .next passes) in
         both
-        ∙ ap (λ d. ran (cond d l (runAll room (textsOf y) l)) (m .queue)) (w .passes)
-        ∙ ap (λ z. ran (runAll room (textsOf y) z) (m .queue)) (begun room l n o a (w .count) (w .passes))
-        ∙ ap (λ z. ran z (m .queue)) (run-further room n (textsOf y) (startLine (l .state) (l .one) (l .two)))
-        ∙ ap (later n) (sym (open-call room y (ran l (m .queue) .after) (l .one) (l .two) guard short-second))
+        ∙ ap (λ d. withQueue (m .queue) (lineRan (cond d l (runAll room (textsOf y) l)))) (w .passes)
+        ∙ ap (λ z. withQueue (m .queue) (lineRan (runAll room (textsOf y) z)))
+        (begun room l n o a (w .count) (w .passes))
+        ∙ ap (λ z. withQueue (m .queue) (lineRan z))
+        (run-further room n (textsOf y) (startLine (l .after) (l .one) (l .two)))
+        ∙ ap (later n)
+        (sym (open-call room y (record { queue = m .queue; state = l .after }) (l .one) (l .two) guard short-second))
 
 pub several-commands : SeveralCommands
 several-commands room x y short m one two passes =

@@ -87,12 +87,12 @@ refused-command r n s one two =
     }
 
 pub command-refused : (room : ℕ) (waiting : Bool) (text : List ℕ) (s : State) (one two : List ℕ) (refusal : Refusal) →
-    commandOf room waiting (parsedOf text) s one two .outcome ≡ Refused refusal →
+    commandOf room waiting (parsedOf text) s one two .report ≡ Refused refusal →
     RefusedCommand refusal s one two (commandOf room waiting (parsedOf text) s one two)
 unfolding doneBy
 command-refused room waiting text s one two refusal =
     command-by room waiting s one two
-    (λ (e : Effect). e .outcome ≡ Refused refusal → RefusedCommand refusal s one two e)
+    (λ (e : Effect). e .report ≡ Refused refusal → RefusedCommand refusal s one two e)
     (λ p. never (cc))
     (λ r n p. let same : r ≡ refusal = cc in rw (← same) (refused-command r n s one two))
     (λ kind k a p. never (cc))
@@ -107,27 +107,27 @@ first-done (answer.Refused r place) n = refl
 
 module _ (room : ℕ) (text : List ℕ) (l : Line) where
   -- whether the rest is dropped goes by the outcome
-  dropped-by : (o : Outcome) → effectIn room text l .outcome ≡ o → stepOf room text l .dropped ≡ drops o
+  dropped-by : (o : Outcome) → effectIn room text l .report ≡ o → stepOf room text l .report .dropped ≡ drops o
   unfolding stepOf afterOf
   dropped-by o p = ap drops p
 
-  next-by : (o : Outcome) → effectIn room text l .outcome ≡ o → (more : List (List ℕ)) →
+  next-by : (o : Outcome) → effectIn room text l .report ≡ o → (more : List (List ℕ)) →
       let next = stepOf room text l in
       runAll room (text ∷ more) l ≡ cond (drops o) next (runAll room more next)
   unfolding runAll
   next-by o p more = rw (dropped-by o p)
 
-  answer-by : (o : Outcome) → effectIn room text l .outcome ≡ o →
-      stepOf room text l .answer ≡ firstOf (l .answer) o (l .count + 1)
+  answer-by : (o : Outcome) → effectIn room text l .report ≡ o →
+      stepOf room text l .report .answer ≡ firstOf (l .report .answer) o (l .report .count + 1)
   unfolding stepOf afterOf
-  answer-by o p = ap (λ x. firstOf (l .answer) x (l .count + 1)) p
+  answer-by o p = ap (λ x. firstOf (l .report .answer) x (l .report .count + 1)) p
 
-  pub step-refused : (refusal : Refusal) → effectIn room text l .outcome ≡ Refused refusal →
+  pub step-refused : (refusal : Refusal) → effectIn room text l .report ≡ Refused refusal →
       RefusedStep refusal room text l
   unfolding stepOf afterOf drops
   step-refused refusal p =
       let c =
-      command-refused (room - length (l .out)) (waits (l .out)) text (l .state) (l .one) (l .two) refusal p in
+      command-refused (room - length (l .out)) (waits (l .out)) text (l .after) (l .one) (l .two) refusal p in
       record {
         told = p;
         bit = c .bit;
@@ -140,7 +140,7 @@ module _ (room : ℕ) (text : List ℕ) (l : Line) where
         next = next-by (Refused refusal) p;
       }
 
-  step-accepted : effectIn room text l .outcome ≡ Done → AcceptedStep room text l
+  step-accepted : effectIn room text l .report ≡ Done → AcceptedStep room text l
   unfolding stepOf afterOf drops
   step-accepted p =
       record {
@@ -149,14 +149,14 @@ module _ (room : ℕ) (text : List ℕ) (l : Line) where
         first = refl;
         second = refl;
         reply = refl;
-        answer = answer-by Done p ∙ first-done (l .answer) (l .count + 1);
+        answer = answer-by Done p ∙ first-done (l .report .answer) (l .report .count + 1);
         next = next-by Done p;
       }
 
   -- a command of a line is accepted or refused
   step-by : (P : Type 0) → (AcceptedStep room text l → P) → ((r : Refusal) → RefusedStep r room text l → P) → P
-  step-by P takes refuses = by (effectIn room text l .outcome) refl where
-    by : (o : Outcome) → effectIn room text l .outcome ≡ o → P
+  step-by P takes refuses = by (effectIn room text l .report) refl where
+    by : (o : Outcome) → effectIn room text l .report ≡ o → P
     by Done p = takes (step-accepted p)
     by (Refused r) p = refuses r (step-refused r p)
 
@@ -175,14 +175,14 @@ room-left r e h = eqb-false _ _ e (ap (λ (q : Refusal). meaningOf q .number) h)
 module _ (room : ℕ) (P : List (List ℕ) → Line → Line → Type 0)
     (ends : (l : Line) → P [] l l)
     (goes : (text : List ℕ) (more : List (List ℕ)) (l end : Line) → Continues room text l →
-    stepOf room text l .dropped ≡ false → P more (stepOf room text l) end → P (text ∷ more) l end)
+    stepOf room text l .report .dropped ≡ false → P more (stepOf room text l) end → P (text ∷ more) l end)
     (drop : (text : List ℕ) (more : List (List ℕ)) (l : Line) → RefusedStep NoRoom room text l →
-    stepOf room text l .dropped ≡ true → P (text ∷ more) l (stepOf room text l))
+    stepOf room text l .report .dropped ≡ true → P (text ∷ more) l (stepOf room text l))
   where
     module _ (text : List ℕ) (more : List (List ℕ)) (l : Line)
         (rest : P more (stepOf room text l) (runAll room more (stepOf room text l)))
       where
-        run-goes : Continues room text l → stepOf room text l .dropped ≡ false →
+        run-goes : Continues room text l → stepOf room text l .report .dropped ≡ false →
             runAll room (text ∷ more) l ≡ runAll room more (stepOf room text l) →
             P (text ∷ more) l (runAll room (text ∷ more) l)
         run-goes c d e =
@@ -222,16 +222,16 @@ commands-cons room text l c more end n (demand.crowded before other dropped here
     demand.crowded (text ∷ before) other dropped here (demand.next text before l here c t) r
 
 -- the commands of a line, with the length told, which goes by whether the rest was dropped
-pub commands-are : (room : ℕ) (texts : List (List ℕ)) (l : Line) → l .dropped ≡ false →
+pub commands-are : (room : ℕ) (texts : List (List ℕ)) (l : Line) → l .report .dropped ≡ false →
     Commands room l texts (runAll room texts l) (lengthTold (runAll room texts l))
 commands-are room =
-    run-by room (λ texts l end. l .dropped ≡ false → Commands room l texts end (lengthTold end))
+    run-by room (λ texts l end. l .report .dropped ≡ false → Commands room l texts end (lengthTold end))
     (λ l d. at [] l l false d (demand.whole [] l (demand.none l)))
     (λ text more l end c d f e. commands-cons room text l c more end (lengthTold end) (f d))
     (λ text more l r d e.
     at (text ∷ more) l (stepOf room text l) true d (demand.crowded [] text more l (demand.none l) r))
   where
-    at : (texts : List (List ℕ)) (l end : Line) (t : Bool) → end .dropped ≡ t →
+    at : (texts : List (List ℕ)) (l end : Line) (t : Bool) → end .report .dropped ≡ t →
         Commands room l texts end (cond t 0 (length (end .out))) → Commands room l texts end (lengthTold end)
     at texts l end t e =
         subst (λ (d : Bool). Commands room l texts end (cond d 0 (length (end .out)))) (sym e)
@@ -241,11 +241,13 @@ commands-are room =
 -- a refusal that the line has stays its answer; a line without one passes where each command is accepted, and else the
 -- first refused one is its answer
 pub record Answering (room : ℕ) (texts : List (List ℕ)) (l end : Line) : Type 0 where
-  pub kept : (r : Refusal) (place : ℕ) → l .answer ≡ answer.Refused r place → end .answer ≡ answer.Refused r place
-  pub passed : l .answer ≡ answer.Passed → end .answer ≡ answer.Passed →
+  pub kept : (r : Refusal) (place : ℕ) → l .report .answer ≡ answer.Refused r place →
+      end .report .answer ≡ answer.Refused r place
+  pub passed : l .report .answer ≡ answer.Passed → end .report .answer ≡ answer.Passed →
       OneByOne (AcceptedStep room) room texts l end
-  pub placed : l .answer ≡ answer.Passed → (r : Refusal) (place : ℕ) → end .answer ≡ answer.Refused r place →
-      (p : ℕ) × (place ≡ l .count + p) × FirstRefused r p room texts l
+  pub placed : l .report .answer ≡ answer.Passed → (r : Refusal) (place : ℕ) →
+      end .report .answer ≡ answer.Refused r place →
+      (p : ℕ) × (place ≡ l .report .count + p) × FirstRefused r p room texts l
 
 answering-ends : (room : ℕ) (l : Line) → Answering room [] l l
 answering-ends room l =
@@ -267,8 +269,9 @@ module _ (room : ℕ) (text : List ℕ) (more : List (List ℕ)) (l end : Line) 
       }
     where
       later : (r : Refusal) (place : ℕ) →
-          ((p : ℕ) × (place ≡ stepOf room text l .count + p) × FirstRefused r p room more (stepOf room text l)) →
-          (p : ℕ) × (place ≡ l .count + p) × FirstRefused r p room (text ∷ more) l
+          ((p : ℕ) × (place ≡ stepOf room text l .report .count + p)
+          × FirstRefused r p room more (stepOf room text l)) →
+          (p : ℕ) × (place ≡ l .report .count + p) × FirstRefused r p room (text ∷ more) l
       later r place x =
           let y = x .2 in (
             x .0 + 1,
@@ -287,14 +290,15 @@ module _ (room : ℕ) (text : List ℕ) (more : List (List ℕ)) (l end : Line) 
 
   -- after a refused command: what the line answers then stays its answer
   module _ (r : Refusal) (a : RefusedStep r room text l)
-      (stays : (q : Refusal) (place : ℕ) → stepOf room text l .answer ≡ answer.Refused q place →
-      end .answer ≡ answer.Refused q place)
+      (stays : (q : Refusal) (place : ℕ) → stepOf room text l .report .answer ≡ answer.Refused q place →
+      end .report .answer ≡ answer.Refused q place)
     where
-      told-here : l .answer ≡ answer.Passed → end .answer ≡ answer.Refused r (l .count + 1)
+      told-here : l .report .answer ≡ answer.Passed → end .report .answer ≡ answer.Refused r (l .report .count + 1)
       unfolding firstOf
-      told-here e = stays r (l .count + 1) (a .answer ∙ rw e)
+      told-here e = stays r (l .report .count + 1) (a .answer ∙ rw e)
 
-      kept-here : (q : Refusal) (place : ℕ) → l .answer ≡ answer.Refused q place → end .answer ≡ answer.Refused q place
+      kept-here : (q : Refusal) (place : ℕ) → l .report .answer ≡ answer.Refused q place →
+          end .report .answer ≡ answer.Refused q place
       unfolding firstOf
       kept-here q place e = stays q place (a .answer ∙ rw e)
 
@@ -305,7 +309,7 @@ module _ (room : ℕ) (text : List ℕ) (more : List (List ℕ)) (l end : Line) 
             passed = λ e f. never (cc (told-here e));
             placed = λ e q place f.
                 let same : r ≡ q = cc (told-here e) in
-                let at : place ≡ l .count + 1 = cc (told-here e) in (
+                let at : place ≡ l .report .count + 1 = cc (told-here e) in (
                   1,
                   at,
                   record {

@@ -8,11 +8,12 @@ use lib.Dec.{leb}
 use lib.ListN.{length}
 use borrow.Author.Tests.{eqb-true, le-leb, lt-leb}
 use Rattle.divide.specs.Ascii.{bytes}
+use Rattle.refusal.specs.declared.Refusal.{Refusal}
 use Rattle.refusal.specs.declared.Refusal.the-variants.{LongLine}
 use Rattle.refusal.specs.declared.Outcome.{Outcome}
 use Rattle.refusal.specs.declared.Outcome.the-variants.{Done, Refused}
 use Rattle.command.specs.declared.QueryArgument.the-variants as query
-use Rattle.state.specs.State.{startState}
+use Rattle.state.specs.State.{startState, markedBy}
 use Rattle.state.specs.Allowed.{allowedState}
 use Rattle.state.specs.declared.Unit.{Unit}
 use Rattle.allow.specs.Allows.{queryAllowed}
@@ -20,15 +21,16 @@ use Rattle.queue.specs.Queue as queue
 use Rattle.queue.specs.declared.Queue.{Queue}
 use Rattle.queue.specs.declared.Ended.{Ended}
 use Rattle.queue.specs.declared.Ended.the-variants as ended
-use Rattle.line.specs.Line.{lineOf}
+use Rattle.reply.specs.After.{After}
 use Rattle.event.specs.Event.{eventOf}
 use Rattle.event.specs.declared.Event.{Event}
 use Rattle.state.proofs.Sound.{sound, capacity-known}
-use Rattle.module.specs.Start.{freshModule, startOf}
+use Rattle.module.specs.Start.{freshModule}
 use Rattle.module.specs.Module.{allowedModule, guardOf}
 use Rattle.module.specs.declared.Module.{Module}
-use Rattle.lockin.specs.Calls.{Call, guarded, ran, tooLong, wholeLine, lineCall, endedLine, fedCall, fedByte, byteCall}
-use Rattle.lockin.specs.Calls.{EventCall, occurred, guardedEvent, eventCall}
+use Rattle.lockin.specs.Start.{startOf}
+use Rattle.lockin.specs.Calls.{withQueue, guarded, refusedWhole, lineEnd, wholeEnd, wholeLine, lineCall}
+use Rattle.lockin.specs.Calls.{fedCall, fedByte, byteCall, eventCall}
 use Rattle.demands.specs.Points.{History, Holds, unlessRefused, afterLine, afterLineCall, afterEnded}
 use Rattle.demands.specs.Points.{afterByteCall, afterEvent, afterEventCall, Stored, byStart, byLine, byByte}
 use Rattle.demands.specs.Points.{byEvent, PointsKept, traceQuery, RepliesPoints}
@@ -66,55 +68,46 @@ fits-passed m one two e =
 
 module _ (history : History) (m : Module) (one two : List ℕ) (h : Holds history (m .state) one two) where
   -- a call where 11 and 9 let it be
-  guarded-holds : (o : Outcome) → guardOf m (length one) (length two) ≡ o → (c : Call) (now : History) →
+  guarded-holds : {R : Type 0} (report : Refusal → R) (o : Outcome) → guardOf m (length one) (length two) ≡ o →
+      (c : After Module R) (now : History) →
       (Fits (m .state) one two → Holds now (c .after .state) (c .one) (c .two)) →
-      let g = guarded o c m one two in
+      let g = guarded report o c m one two in
       Holds (unlessRefused o now history) (g .after .state) (g .one) (g .two)
   unfolding guarded unlessRefused
-  guarded-holds Done e c now k = k (fits-passed m one two e)
-  guarded-holds (Refused r) e c now k = h
+  guarded-holds report Done e c now k = k (fits-passed m one two e)
+  guarded-holds report (Refused r) e c now k = h
 
-  guarded-event-holds : (o : Outcome) → guardOf m (length one) (length two) ≡ o → (c : EventCall) (now : History) →
-      (Fits (m .state) one two → Holds now (c .after .state) (c .one) (c .two)) →
-      let g = guardedEvent o c m one two in
-      Holds (unlessRefused o now history) (g .after .state) (g .one) (g .two)
-  unfolding guardedEvent unlessRefused
-  guarded-event-holds Done e c now k = k (fits-passed m one two e)
-  guarded-event-holds (Refused r) e c now k = h
-
-  long-holds : Fits (m .state) one two → (q : Queue) →
-      let c = tooLong m q one two in
-      Holds history (c .after .state) (c .one) (c .two)
-  long-holds f q = marked-holds history (m .state) one two h f LongLine
+  long-holds : Fits (m .state) one two → Holds history (markedBy LongLine (m .state)) one two
+  long-holds f = marked-holds history (m .state) one two h f LongLine
 
   whole-holds : (room : ℕ) (line : List ℕ) → Fits (m .state) one two →
       let c = wholeLine room line m one two in
       Holds (cond (leb (length line) queue.lineLimit) (afterLine room line (m .state) one two history) history)
       (c .after .state) (c .one) (c .two)
-  unfolding wholeLine
+  unfolding wholeLine wholeEnd lineEnd
   whole-holds room line f = by (leb (length line) queue.lineLimit) where
     by : (t : Bool) →
-        let c = cond t (ran (lineOf room line (m .state) one two) (m .queue)) (tooLong m (m .queue) one two) in
-        Holds (cond t (afterLine room line (m .state) one two history) history) (c .after .state) (c .one) (c .two)
+        let c = lineEnd (cond t ended.Line ended.TooLong) room line (m .state) one two in
+        Holds (cond t (afterLine room line (m .state) one two history) history) (c .after) (c .one) (c .two)
     by true = line-holds room line (m .state) one two history f h
-    by false = long-holds f (m .queue)
+    by false = long-holds f
 
   line-kept : (room : ℕ) (line : List ℕ) →
       let c = lineCall room line m one two in
       Holds (afterLineCall room line m one two history) (c .after .state) (c .one) (c .two)
   unfolding lineCall afterLineCall
   line-kept room line =
-      guarded-holds (guardOf m (length one) (length two)) refl (wholeLine room line m one two)
+      guarded-holds refusedWhole (guardOf m (length one) (length two)) refl (wholeLine room line m one two)
       (cond (leb (length line) queue.lineLimit) (afterLine room line (m .state) one two history) history)
       (whole-holds room line)
 
   ended-holds : (room : ℕ) (e : Ended) (q : Queue) → Fits (m .state) one two →
       let c = fedCall e q room m one two in
       Holds (afterEnded e q room m one two history) (c .after .state) (c .one) (c .two)
-  unfolding fedCall endedLine afterEnded
+  unfolding fedCall lineEnd afterEnded
   ended-holds room ended.Nothing q f = h
   ended-holds room ended.Line q f = line-holds room (queue.waitingBytes q) (m .state) one two history f h
-  ended-holds room ended.TooLong q f = long-holds f q
+  ended-holds room ended.TooLong q f = long-holds f
 
   byte-kept : (room b : ℕ) (mark : Bool) →
       let c = byteCall room b mark m one two in
@@ -122,7 +115,7 @@ module _ (history : History) (m : Module) (one two : List ℕ) (h : Holds histor
   unfolding byteCall fedByte afterByteCall
   byte-kept room b mark =
       let fed = queue.fedOf (m .queue) (m .state .unit .port) b mark in
-      guarded-holds (guardOf m (length one) (length two)) refl (fedByte room b mark m one two)
+      guarded-holds refusedWhole (guardOf m (length one) (length two)) refl (fedByte room b mark m one two)
       (afterEnded (fed .ended) (fed .queue) room m one two history) (ended-holds room (fed .ended) (fed .queue))
 
   event-kept : (e : Event) →
@@ -130,8 +123,8 @@ module _ (history : History) (m : Module) (one two : List ℕ) (h : Holds histor
       Holds (afterEventCall e m one two history) (c .after .state) (c .one) (c .two)
   unfolding eventCall afterEventCall
   event-kept e =
-      guarded-event-holds (guardOf m (length one) (length two)) refl
-      (occurred (eventOf e (m .state) one two) (m .queue))
+      guarded-holds Refused (guardOf m (length one) (length two)) refl
+      (withQueue (m .queue) (eventOf e (m .state) one two))
       (afterEvent e (m .state) history) (λ f. event-holds history (m .state) one two h f e)
 
 made-holds : (history : History) (m : Module) (one two : List ℕ) → Stored history m one two →

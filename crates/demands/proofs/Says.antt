@@ -26,7 +26,7 @@ use Rattle.line.specs.Perform.{doneBy, performed, commandOf}
 use Rattle.line.specs.Line.{Line, startLine, afterOf, stepOf, runAll, lineOf}
 use Rattle.module.specs.Module.{guardOf}
 use Rattle.module.specs.declared.Module.{Module}
-use Rattle.lockin.specs.Calls.{guarded, ran, wholeLine, lineCall}
+use Rattle.lockin.specs.Calls.{withQueue, guarded, lineRan, lineEnd, wholeEnd, wholeLine, lineCall}
 use Rattle.demands.specs.Demand2.{answered}
 
 -- a line that is one command and is refused by neither 1 nor 2: short enough, no byte of it dropped or changed, not
@@ -47,19 +47,20 @@ pub said-line : (text : List ℕ) (kind : Kind) → Says text kind → (room : �
 unfolding lineOf runAll stepOf commandOf
 said-line text kind says room s one two =
     let l = afterOf (startLine s one two) (performed room false kind s one two) in
-    rw (says .kept, says .single, says .read, sub-zero room) (either (l .dropped) l)
+    rw (says .kept, says .single, says .read, sub-zero room) (either (l .report .dropped) l)
 
 -- a call with a line that 11, 9 and 5 do not refuse
 pub open-call : (room : ℕ) (text : List ℕ) (m : Module) (one two : List ℕ) →
     guardOf m (length one) (length two) ≡ Done → length text ≤ 256 →
-    lineCall room text m one two ≡ ran (lineOf room text (m .state) one two) (m .queue)
-unfolding lineCall wholeLine guarded
+    lineCall room text m one two ≡ withQueue (m .queue) (lineRan (lineOf room text (m .state) one two))
+unfolding lineCall wholeLine wholeEnd lineEnd guarded
 open-call room text m one two passes short = rw (passes, le-leb (length text) 256 short) refl
 
 pub said-call : (text : List ℕ) (kind : Kind) → Says text kind → (room : ℕ) (m : Module) (one two : List ℕ) →
     guardOf m (length one) (length two) ≡ Done →
     lineCall room text m one two
-    ≡ ran (afterOf (startLine (m .state) one two) (performed room false kind (m .state) one two)) (m .queue)
+    ≡ withQueue (m .queue)
+    (lineRan (afterOf (startLine (m .state) one two) (performed room false kind (m .state) one two)))
 said-call text kind says room m one two passes =
     rw (open-call room text m one two passes (says .short), said-line text kind says room (m .state) one two) refl
 
@@ -76,6 +77,6 @@ module _ (text : List ℕ) (q : QueryArgument) (says : Says text (Query q)) (roo
 
     -- a query that 3 refuses
     pub asked-refused : queryAllowed (m .state .moving) q ≡ false →
-        lineCall room text m one two .told .answer ≡ Refused NotAllowed 1
+        lineCall room text m one two .report .answer ≡ Refused NotAllowed 1
     unfolding performed allowsOf afterOf firstOf
     asked-refused refused = rw (said-call text (Query q) says room m one two passes, refused)

@@ -22,10 +22,10 @@ use Rattle.demands.proofs.Command.{command-by}
 
 command-stays : (room : ℕ) (waiting : Bool) (text : List ℕ) (s : State) (one two : List ℕ) →
     let e = commandOf room waiting (parsedOf text) s one two in
-    Stays s (e .state) one two (e .one) (e .two)
+    Stays s (e .after) one two (e .one) (e .two)
 unfolding doneBy markedBy
 command-stays room waiting text s one two =
-    command-by room waiting s one two (λ (e : Effect). Stays s (e .state) one two (e .one) (e .two))
+    command-by room waiting s one two (λ (e : Effect). Stays s (e .after) one two (e .one) (e .two))
     (record { allowed = λ h. h; unit = refl; first-length = refl; second-length = refl })
     (λ r n. record { allowed = λ h. marked-stays s h r; unit = refl; first-length = refl; second-length = refl })
     (λ kind k p.
@@ -50,18 +50,18 @@ both-stay a b c one two one′ two′ one″ two″ p q =
 
 step-stays : (room : ℕ) (text : List ℕ) (l : Line) →
     let n = stepOf room text l in
-    Stays (l .state) (n .state) (l .one) (l .two) (n .one) (n .two)
+    Stays (l .after) (n .after) (l .one) (l .two) (n .one) (n .two)
 unfolding stepOf afterOf
-step-stays room text l = command-stays (room - length (l .out)) (waits (l .out)) text (l .state) (l .one) (l .two)
+step-stays room text l = command-stays (room - length (l .out)) (waits (l .out)) text (l .after) (l .one) (l .two)
 
 run-stays : (room : ℕ) (texts : List (List ℕ)) (l : Line) →
     let n = runAll room texts l in
-    Stays (l .state) (n .state) (l .one) (l .two) (n .one) (n .two)
+    Stays (l .after) (n .after) (l .one) (l .two) (n .one) (n .two)
 unfolding runAll
 run-stays room [] l = record { allowed = λ h. h; unit = refl; first-length = refl; second-length = refl }
 run-stays room (text ∷ more) l =
-    by (stepOf room text l .dropped)
-    (both-stay (l .state) (next .state) (last .state) (l .one) (l .two) (next .one) (next .two) (last .one) (last .two) (step-stays room text l) (run-stays room more next))
+    by (stepOf room text l .report .dropped)
+    (both-stay (l .after) (next .after) (last .after) (l .one) (l .two) (next .one) (next .two) (last .one) (last .two) (step-stays room text l) (run-stays room more next))
   where
     next : Line
     next = stepOf room text l
@@ -69,9 +69,9 @@ run-stays room (text ∷ more) l =
     last : Line
     last = runAll room more next
 
-    by : (t : Bool) → Stays (l .state) (last .state) (l .one) (l .two) (last .one) (last .two) →
+    by : (t : Bool) → Stays (l .after) (last .after) (l .one) (l .two) (last .one) (last .two) →
         let n = cond t next last in
-        Stays (l .state) (n .state) (l .one) (l .two) (n .one) (n .two)
+        Stays (l .after) (n .after) (l .one) (l .two) (n .one) (n .two)
     by true p = step-stays room text l
     by false p = p
 

@@ -17,6 +17,7 @@ use Rattle.state.specs.declared.Unit.{Unit}
 use Rattle.state.specs.declared.State.{State}
 use Rattle.state.proofs.Sound.{start-allowed}
 use Rattle.queue.specs.Queue as queue
+use Rattle.queue.specs.Parts.{afterRun}
 use Rattle.queue.specs.declared.Queue.{Queue}
 use Rattle.queue.specs.declared.Ended.{Ended}
 use Rattle.queue.specs.declared.Ended.the-variants as ended
@@ -24,11 +25,14 @@ use Rattle.queue.proofs.Stays.{empty-keeps, emptied-keeps, fed-keeps}
 use Rattle.line.specs.Line.{lineOf}
 use Rattle.event.specs.Event.{eventOf}
 use Rattle.event.specs.declared.Event.{Event}
-use Rattle.module.specs.Start.{unitKnown, tracesFit, freshModule, refusedStart, startOf}
+use Rattle.module.specs.Start.{unitKnown, tracesFit, freshModule}
 use Rattle.module.specs.Module.{allowedModule, guardOf}
 use Rattle.module.specs.declared.Module.{Module}
-use Rattle.module.specs.declared.Started.{Started}
-use Rattle.lockin.specs.Calls.{Call, guarded, ran, tooLong, wholeLine, lineCall, endedLine, fedCall, fedByte, byteCall, EventCall, occurred, guardedEvent, eventCall}
+use Rattle.lockin.specs.declared.Started.{Started}
+use Rattle.lockin.specs.Start.{refusedStart, startOf}
+use Rattle.reply.specs.After.{After}
+use Rattle.lockin.specs.Calls.{withQueue, guarded, refusedWhole, lineEnd, wholeLine, lineCall, fedCall, fedByte}
+use Rattle.lockin.specs.Calls.{byteCall, eventCall}
 use Rattle.demands.specs.Allowed.{Stays, Goes, Made, byStart, byLine, byByte, byEvent, StaysAllowed}
 use Rattle.demands.proofs.Change.{marked-stays}
 use Rattle.demands.proofs.States.{states-stay}
@@ -158,34 +162,40 @@ unfolding markedBy
 marked-state r s one two = record { allowed = λ h. marked-stays s h r; unit = refl; first-length = refl; second-length = refl }
 
 -- a call on a module and its traces leads on
-abbrev On : Module → List ℕ → List ℕ → Call → Type 0
+abbrev On : {R : Type 0} → Module → List ℕ → List ℕ → After Module R → Type 0
 On m one two c = Goes m (c .after) one two (c .one) (c .two)
 
-guarded-goes : (o : Outcome) (c : Call) (m : Module) (one two : List ℕ) → On m one two c → On m one two (guarded o c m one two)
+guarded-goes : {R : Type 0} (report : Refusal → R) (o : Outcome) (c : After Module R) (m : Module) (one two : List ℕ) →
+    On m one two c → On m one two (guarded report o c m one two)
 unfolding guarded
-guarded-goes Done c m one two g = g
-guarded-goes (Refused r) c m one two g = same-goes m one two
+guarded-goes report Done c m one two g = g
+guarded-goes report (Refused r) c m one two g = same-goes m one two
 
-ran-goes : (room : ℕ) (bytes : List ℕ) (q : Queue) (m : Module) (one two : List ℕ)
-    → (queue.keepsOf (m .queue) (m .state .unit .port) ≡ true → queue.keepsOf q (m .state .unit .port) ≡ true)
-    → length (q .bytes) ≡ length (m .queue .bytes) → On m one two (ran (lineOf room bytes (m .state) one two) q)
-ran-goes room bytes q m one two k l =
-    let line = lineOf room bytes (m .state) one two in
-    module-goes m (line .state) q one two (line .one) (line .two) (states-stay .line room bytes (m .state) one two) k l
+-- a queue that is as allowed as the module's was, with as many bytes
+record Follows (m : Module) (q : Queue) : Type 0 where
+  kept : queue.keepsOf (m .queue) (m .state .unit .port) ≡ true → queue.keepsOf q (m .state .unit .port) ≡ true
+  queued : length (q .bytes) ≡ length (m .queue .bytes)
 
-long-goes : (q : Queue) (m : Module) (one two : List ℕ)
-    → (queue.keepsOf (m .queue) (m .state .unit .port) ≡ true → queue.keepsOf q (m .state .unit .port) ≡ true)
-    → length (q .bytes) ≡ length (m .queue .bytes) → On m one two (tooLong m q one two)
-long-goes q m one two k l =
-    module-goes m (markedBy LongLine (m .state)) q one two one two (marked-state LongLine (m .state) one two) k l
+-- what comes of a line's end, with any text
+end-goes : (e : Ended) (room : ℕ) (text : List ℕ) (m : Module) (q : Queue) (one two : List ℕ) → Follows m q →
+    On m one two (withQueue q (lineEnd e room text (m .state) one two))
+unfolding lineEnd
+end-goes ended.Nothing room text m q one two f =
+    module-goes m (m .state) q one two one two
+    (record { allowed = λ h. h; unit = refl; first-length = refl; second-length = refl }) (f .kept) (f .queued)
+end-goes ended.Line room text m q one two f =
+    let l = lineOf room text (m .state) one two in
+    module-goes m (l .after) q one two (l .one) (l .two) (states-stay .line room text (m .state) one two)
+    (f .kept) (f .queued)
+end-goes ended.TooLong room text m q one two f =
+    module-goes m (markedBy LongLine (m .state)) q one two one two (marked-state LongLine (m .state) one two)
+    (f .kept) (f .queued)
 
 line-goes : (room : ℕ) (bytes : List ℕ) (m : Module) (one two : List ℕ) → On m one two (lineCall room bytes m one two)
 unfolding lineCall wholeLine
 line-goes room bytes m one two =
-    guarded-goes (guardOf m (length one) (length two)) (wholeLine room bytes m one two) m one two (by (leb (length bytes) 256)) where
-      by : (t : Bool) → On m one two (cond t (ran (lineOf room bytes (m .state) one two) (m .queue)) (tooLong m (m .queue) one two))
-      by true = ran-goes room bytes (m .queue) m one two (λ k. k) refl
-      by false = long-goes (m .queue) m one two (λ k. k) refl
+    guarded-goes refusedWhole (guardOf m (length one) (length two)) _ m one two
+    (end-goes _ room bytes m (m .queue) one two (record { kept = λ k. k; queued = refl }))
 
 -- the queue's bytes stay as many
 fed-length : (q : Queue) (port b : ℕ) (mark : Bool) → length (queue.fedOf q port b mark .queue .bytes) ≡ length (q .bytes)
@@ -203,41 +213,31 @@ fed-length q port b mark = by (q .dropping) (queue.endsLine port b) (ltb (q .len
   by false false true = length-set (q .bytes) (q .len) b
   by false false false = refl
 
-module _ (m : Module) (q : Queue) (one two : List ℕ) (room : ℕ)
-    (k : queue.keepsOf (m .queue) (m .state .unit .port) ≡ true → queue.keepsOf q (m .state .unit .port) ≡ true)
-    (l : length (q .bytes) ≡ length (m .queue .bytes))
-  where
-    fed-goes : (e : Ended) → On m one two (fedCall e q room m one two)
-    unfolding fedCall endedLine
-    fed-goes ended.Nothing =
-        module-goes m (m .state) q one two one two (record { allowed = λ h. h; unit = refl; first-length = refl; second-length = refl }) k l
-    fed-goes ended.Line = ran-goes room (queue.waitingBytes q) (queue.emptiedOf q) m one two (λ h. emptied-keeps q (m .state .unit .port)) l
-    fed-goes ended.TooLong = long-goes q m one two k l
+-- the queue once a line that ended has run
+run-follows : (e : Ended) (m : Module) (q : Queue) → Follows m q → Follows m (afterRun e q)
+run-follows ended.Nothing m q f = f
+run-follows ended.Line m q f = record { kept = λ h. emptied-keeps q (m .state .unit .port); queued = f .queued }
+run-follows ended.TooLong m q f = f
 
-byte-goes : (room b : ℕ) (mark : Bool) (m : Module) (one two : List ℕ) → length (m .queue .bytes) ≡ queue.lineLimit
-    → On m one two (byteCall room b mark m one two)
-unfolding byteCall fedByte
+byte-goes : (room b : ℕ) (mark : Bool) (m : Module) (one two : List ℕ) → length (m .queue .bytes) ≡ queue.lineLimit →
+    On m one two (byteCall room b mark m one two)
+unfolding byteCall fedByte fedCall
 byte-goes room b mark m one two long =
     let port = m .state .unit .port in
     let fed = queue.fedOf (m .queue) port b mark in
-    guarded-goes (guardOf m (length one) (length two)) (fedByte room b mark m one two) m one two
-    (fed-goes m (fed .queue) one two room (λ k. fed-keeps (m .queue) port k b mark long) (fed-length (m .queue) port b mark) (fed .ended))
+    let follows : Follows m (fed .queue) = record {
+      kept = λ k. fed-keeps (m .queue) port k b mark long;
+      queued = fed-length (m .queue) port b mark;
+    } in
+    guarded-goes refusedWhole (guardOf m (length one) (length two)) _ m one two
+    (end-goes (fed .ended) room _ m _ one two (run-follows (fed .ended) m (fed .queue) follows))
 
-guarded-event : (o : Outcome) (c : EventCall) (m : Module) (one two : List ℕ) → Goes m (c .after) one two (c .one) (c .two) →
-    let g = guardedEvent o c m one two in
-    Goes m (g .after) one two (g .one) (g .two)
-unfolding guardedEvent
-guarded-event Done c m one two g = g
-guarded-event (Refused r) c m one two g = same-goes m one two
-
-event-goes : (e : Event) (m : Module) (one two : List ℕ) →
-    let c = eventCall e m one two in
-    Goes m (c .after) one two (c .one) (c .two)
+event-goes : (e : Event) (m : Module) (one two : List ℕ) → On m one two (eventCall e m one two)
 unfolding eventCall
 event-goes e m one two =
     let o = eventOf e (m .state) one two in
-    guarded-event (guardOf m (length one) (length two)) (occurred o (m .queue)) m one two
-    (module-goes m (o .state) (m .queue) one two (o .one) (o .two) (states-stay .event e (m .state) one two) (λ k. k) refl)
+    guarded-goes Refused (guardOf m (length one) (length two)) _ m one two
+    (module-goes m (o .after) (m .queue) one two (o .one) (o .two) (states-stay .event e (m .state) one two) (λ k. k) refl)
 
 -- ---- what we made
 

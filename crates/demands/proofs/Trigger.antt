@@ -25,13 +25,13 @@ use Rattle.allow.specs.Allows.{allowsOf}
 use Rattle.change.specs.Change.{storageBy, storageAfter, stateAfter}
 use Rattle.reply.specs.Reply.{fitsIn}
 use Rattle.answer.specs.Reply.{replyOf}
-use Rattle.line.specs.Perform.{Effect, doneBy, performed, commandOf}
+use Rattle.line.specs.Perform.{doneBy, performed, commandOf}
 use Rattle.line.specs.Line.{startLine, afterOf}
 use Rattle.event.specs.Event.{sampledIn, eventOf}
 use Rattle.event.specs.declared.Event.the-variants as event
 use Rattle.module.specs.Module.{guardOf}
 use Rattle.module.specs.declared.Module.{Module}
-use Rattle.lockin.specs.Calls.{guarded, ran, lineCall, guardedEvent, eventCall}
+use Rattle.lockin.specs.Calls.{withQueue, guarded, lineRan, lineCall, eventCall}
 use Rattle.demands.specs.Points.{DoesAs, TrigIsTrigger}
 use Rattle.demands.proofs.Says.{Says, said-call}
 
@@ -39,30 +39,25 @@ says-trig : Says (bytes "TRIG") (Act Trigger)
 unfolding cleaned parts onHead parsedOf begins meaningIn setWith arguments alone
 says-trig = record { short = omega arith; kept = refl; single = refl; read = refl }
 
--- what the trigger event does, as a command's effect
-abbrev triggered : State → List ℕ → List ℕ → Effect
-triggered s one two =
-    let e = eventOf event.Trigger s one two in
-    record { state = e .state; one = e .one; two = e .two; out = []; outcome = e .outcome }
-
-trig-done : (s : State) (one two : List ℕ) → doneBy (Act Trigger) [] s one two ≡ triggered s one two
+-- what TRIG does is what the trigger event does
+trig-done : (s : State) (one two : List ℕ) → doneBy (Act Trigger) [] s one two ≡ eventOf event.Trigger s one two
 unfolding doneBy stateAfter storageAfter storageBy eventOf sampledIn triggerOf
 trig-done s one two = refl
 
 trig-performed : (room : ℕ) (waiting : Bool) (s : State) (one two : List ℕ) →
-    performed room waiting (Act Trigger) s one two ≡ triggered s one two
+    performed room waiting (Act Trigger) s one two ≡ eventOf event.Trigger s one two
 unfolding performed allowsOf replyOf fitsIn
 trig-performed room waiting s one two = rw (le-leb 0 room (omega arith)) (trig-done s one two)
 
 trig-command : (room : ℕ) (waiting : Bool) (s : State) (one two : List ℕ) →
-    commandOf room waiting (parsedOf (bytes "TRIG")) s one two ≡ triggered s one two
+    commandOf room waiting (parsedOf (bytes "TRIG")) s one two ≡ eventOf event.Trigger s one two
 unfolding commandOf
 trig-command room waiting s one two = rw (says-trig .read) (trig-performed room waiting s one two)
 
 -- the line's call where neither 11 nor 9 refuses it
 trig-call : (room : ℕ) (m : Module) (one two : List ℕ) → guardOf m (length one) (length two) ≡ Done →
     lineCall room (bytes "TRIG") m one two
-    ≡ ran (afterOf (startLine (m .state) one two) (triggered (m .state) one two)) (m .queue)
+    ≡ withQueue (m .queue) (lineRan (afterOf (startLine (m .state) one two) (eventOf event.Trigger (m .state) one two)))
 trig-call room m one two e =
     said-call (bytes "TRIG") (Act Trigger) says-trig room m one two e
     ∙ rw (trig-performed room false (m .state) one two)
@@ -70,12 +65,12 @@ trig-call room m one two e =
 module _ (room : ℕ) (m : Module) (one two : List ℕ) where
   both-done : guardOf m (length one) (length two) ≡ Done →
       DoesAs (lineCall room (bytes "TRIG") m one two) (eventCall event.Trigger m one two)
-  unfolding eventCall guardedEvent afterOf
+  unfolding eventCall guarded afterOf eventOf sampledIn
   both-done e = rw (trig-call room m one two e, e) (record { after = refl; first = refl; second = refl; reply = refl })
 
   both-refused : (r : Refusal) → guardOf m (length one) (length two) ≡ Refused r →
       DoesAs (lineCall room (bytes "TRIG") m one two) (eventCall event.Trigger m one two)
-  unfolding lineCall guarded eventCall guardedEvent
+  unfolding lineCall guarded eventCall
   both-refused r e = rw e (record { after = refl; first = refl; second = refl; reply = refl })
 
   does-as : (o : Outcome) → guardOf m (length one) (length two) ≡ o →
@@ -84,7 +79,7 @@ module _ (room : ℕ) (m : Module) (one two : List ℕ) where
   does-as (Refused r) e = both-refused r e
 
 pub trig-is-trigger : TrigIsTrigger
-unfolding eventCall guardedEvent eventOf sampledIn afterOf firstOf drops
+unfolding eventCall guarded eventOf sampledIn afterOf firstOf drops
 trig-is-trigger =
     record {
       command = trig-command;

@@ -18,7 +18,7 @@ use Rattle.event.specs.declared.Event.{Event}
 use Rattle.queue.specs.Queue.{lineLimit}
 use Rattle.module.specs.Module.{allowedModule, guardOf}
 use Rattle.module.specs.declared.Module.{Module}
-use Rattle.module.specs.Start.{startOf}
+use Rattle.lockin.specs.Start.{startOf}
 use Rattle.lockin.specs.Calls.{lineCall, byteCall, eventCall}
 
 -- from a state and its traces to others: an allowed state stays allowed, what is fixed at start stays, and each trace
@@ -34,13 +34,13 @@ pub record StatesStay : Type 0 where
   pub start : (u : Unit) → keepsUnit u ≡ true → allowedState (startState u) ≡ true
   pub command : (room : ℕ) (waiting : Bool) (text : List ℕ) (s : State) (one two : List ℕ) →
       let e = commandOf room waiting (parsedOf text) s one two in
-      Stays s (e .state) one two (e .one) (e .two)
+      Stays s (e .after) one two (e .one) (e .two)
   pub line : (room : ℕ) (bytes : List ℕ) (s : State) (one two : List ℕ) →
       let l = lineOf room bytes s one two in
-      Stays s (l .state) one two (l .one) (l .two)
+      Stays s (l .after) one two (l .one) (l .two)
   pub event : (event : Event) (s : State) (one two : List ℕ) →
       let e = eventOf event s one two in
-      Stays s (e .state) one two (e .one) (e .two)
+      Stays s (e .after) one two (e .one) (e .two)
 
 -- from a module and its traces to others: an allowed module stays allowed, and where neither 11 (the state) nor 9 (the
 -- traces) refuses a call, neither refuses the next one; the queue's bytes stay as many

@@ -24,12 +24,13 @@ use Rattle.refusal.specs.declared.Answer.the-variants as answer
 use Rattle.queue.specs.Queue.{lineLimit, emptiedOf, droppingIs, isMarked, waitingBytes, Fed, fedOf}
 use Rattle.queue.specs.declared.Queue.{Queue}
 use Rattle.queue.specs.declared.Ended.the-variants as ended
-use Rattle.module.specs.Start.{unitKnown, tracesFit, freshModule, startOf}
-use Rattle.module.specs.Module.{allowedModule, guardOf, pollOf}
+use Rattle.module.specs.Start.{unitKnown, tracesFit, freshModule}
+use Rattle.module.specs.Module.{allowedModule, guardOf}
 use Rattle.module.specs.declared.Module.{Module}
-use Rattle.module.specs.declared.Started.{Started}
-use Rattle.module.specs.declared.Polled.{Polled}
-use Rattle.lockin.specs.Calls.{Call, lineCall, byteCall, EventCall, eventCall}
+use Rattle.lockin.specs.declared.Started.{Started}
+use Rattle.lockin.specs.declared.Polled.{Polled}
+use Rattle.lockin.specs.Start.{startOf}
+use Rattle.lockin.specs.Calls.{Call, lineCall, byteCall, EventCall, eventCall, pollOf}
 
 -- ---- the bit laid down
 
@@ -67,38 +68,38 @@ pub record Marked (refusal : Refusal) (i : ℕ) (before after : State) : Type 0 
 pub record RefusedCommand (refusal : Refusal) (s : State) (one two : List ℕ) (e : Effect) : Type 0 where
   pub bit : ℕ
   pub laid : OfCommand refusal bit
-  pub marked : Marked refusal bit s (e .state)
+  pub marked : Marked refusal bit s (e .after)
   pub first : e .one ≡ one
   pub second : e .two ≡ two
   pub reply : e .out ≡ []
 
 -- what a command does as the next one of a line
 abbrev pub effectIn : ℕ → List ℕ → Line → Effect
-effectIn room text l = commandOf (room - length (l .out)) (waits (l .out)) (parsedOf text) (l .state) (l .one) (l .two)
+effectIn room text l = commandOf (room - length (l .out)) (waits (l .out)) (parsedOf text) (l .after) (l .one) (l .two)
 
 -- a refused command of a line: the line's reply bytes stay as they are, its answer is this refusal where it had none
 -- before, and the commands after it still have their turn, save under 4
 pub record RefusedStep (refusal : Refusal) (room : ℕ) (text : List ℕ) (l : Line) : Type 0 where
-  pub told : effectIn room text l .outcome ≡ Refused refusal
+  pub told : effectIn room text l .report ≡ Refused refusal
   pub bit : ℕ
   pub laid : OfCommand refusal bit
-  pub marked : Marked refusal bit (l .state) (stepOf room text l .state)
+  pub marked : Marked refusal bit (l .after) (stepOf room text l .after)
   pub first : stepOf room text l .one ≡ l .one
   pub second : stepOf room text l .two ≡ l .two
   pub reply : stepOf room text l .out ≡ l .out
-  pub answer : stepOf room text l .answer ≡ firstOf (l .answer) (Refused refusal) (l .count + 1)
+  pub answer : stepOf room text l .report .answer ≡ firstOf (l .report .answer) (Refused refusal) (l .report .count + 1)
   pub next : (more : List (List ℕ)) →
       runAll room (text ∷ more) l ≡ cond (isNoRoom refusal) (stepOf room text l) (runAll room more (stepOf room text l))
 
 -- an accepted command of a line: the state and the traces that it leaves are the line's, its reply comes after the
 -- bytes before it, and the commands after it have their turn from there
 pub record AcceptedStep (room : ℕ) (text : List ℕ) (l : Line) : Type 0 where
-  pub told : effectIn room text l .outcome ≡ Done
-  pub state : stepOf room text l .state ≡ effectIn room text l .state
+  pub told : effectIn room text l .report ≡ Done
+  pub state : stepOf room text l .after ≡ effectIn room text l .after
   pub first : stepOf room text l .one ≡ effectIn room text l .one
   pub second : stepOf room text l .two ≡ effectIn room text l .two
   pub reply : stepOf room text l .out ≡ l .out ++ effectIn room text l .out
-  pub answer : stepOf room text l .answer ≡ l .answer
+  pub answer : stepOf room text l .report .answer ≡ l .report .answer
   pub next : (more : List (List ℕ)) → runAll room (text ∷ more) l ≡ runAll room more (stepOf room text l)
 
 -- ---- the commands of a line
@@ -149,16 +150,16 @@ pub record FirstRefused (refusal : Refusal) (place room : ℕ) (texts : List (Li
 -- first refused one's refusal and place.
 pub record RunsLine (room : ℕ) (bytes : List ℕ) (m : Module) (q : Queue) (one two : List ℕ) (c : Call) : Type 0 where
   pub end : Line
-  pub commands : Commands room (startLine (m .state) one two) (textsOf bytes) end (c .told .length)
-  pub state : c .after .state ≡ end .state
+  pub commands : Commands room (startLine (m .state) one two) (textsOf bytes) end (c .report .length)
+  pub state : c .after .state ≡ end .after
   pub queue : c .after .queue ≡ q
   pub first : c .one ≡ end .one
   pub second : c .two ≡ end .two
   pub reply : c .out ≡ end .out
-  pub told : c .told .answer ≡ end .answer
-  pub passed : c .told .answer ≡ answer.Passed →
+  pub told : c .report .answer ≡ end .report .answer
+  pub passed : c .report .answer ≡ answer.Passed →
       OneByOne (AcceptedStep room) room (textsOf bytes) (startLine (m .state) one two) end
-  pub placed : (refusal : Refusal) (place : ℕ) → c .told .answer ≡ answer.Refused refusal place →
+  pub placed : (refusal : Refusal) (place : ℕ) → c .report .answer ≡ answer.Refused refusal place →
       FirstRefused refusal place room (textsOf bytes) (startLine (m .state) one two)
 
 -- what a byte does to the module's queue
@@ -178,8 +179,8 @@ pub record OnlyQueued (m : Module) (q : Queue) (one two : List ℕ) (c : Call) :
   pub first : c .one ≡ one
   pub second : c .two ≡ two
   pub reply : c .out ≡ []
-  pub answer : c .told .answer ≡ answer.Passed
-  pub length : c .told .length ≡ 0
+  pub answer : c .report .answer ≡ answer.Passed
+  pub length : c .report .length ≡ 0
 
 -- ---- a call that is refused before any command, at place 0
 
@@ -189,7 +190,7 @@ pub record Untouched (m : Module) (one two : List ℕ) (c : Call) : Type 0 where
   pub first : c .one ≡ one
   pub second : c .two ≡ two
   pub reply : c .out ≡ []
-  pub length : c .told .length ≡ 0
+  pub length : c .report .length ≡ 0
 
 -- 5: bit 0, INP, is set; the queue becomes q, and nothing else is changed
 pub record OnlyMarked (m : Module) (q : Queue) (one two : List ℕ) (c : Call) : Type 0 where
@@ -198,7 +199,7 @@ pub record OnlyMarked (m : Module) (q : Queue) (one two : List ℕ) (c : Call) :
   pub first : c .one ≡ one
   pub second : c .two ≡ two
   pub reply : c .out ≡ []
-  pub length : c .told .length ≡ 0
+  pub length : c .report .length ≡ 0
 
 -- the refusals at place 0; under 5 the queue becomes q
 pub data RefusedCall (m : Module) (q : Queue) (one two : List ℕ) (c : Call) : Refusal → Type 0 where
@@ -258,25 +259,25 @@ pub record RefusedPoll (refusal : Refusal) (m : Module) (p : Polled) : Type 0 wh
 pub record RefusedChangesNothing : Type 0 where
   -- a command by itself, and as the next one of any line
   pub command : (room : ℕ) (waiting : Bool) (text : List ℕ) (s : State) (one two : List ℕ) (refusal : Refusal) →
-      commandOf room waiting (parsedOf text) s one two .outcome ≡ Refused refusal →
+      commandOf room waiting (parsedOf text) s one two .report ≡ Refused refusal →
       RefusedCommand refusal s one two (commandOf room waiting (parsedOf text) s one two)
   pub step : (room : ℕ) (text : List ℕ) (l : Line) (refusal : Refusal) →
-      effectIn room text l .outcome ≡ Refused refusal → RefusedStep refusal room text l
+      effectIn room text l .report ≡ Refused refusal → RefusedStep refusal room text l
   -- a line handed over whole, which uses no queue: refused before any command; run where 11, 9 and 5 do not refuse it;
   -- and where it answers a place other than 0 it was run
   pub line : (room : ℕ) (bytes : List ℕ) (m : Module) (one two : List ℕ) (refusal : Refusal) →
-      lineCall room bytes m one two .told .answer ≡ answer.Refused refusal 0 →
+      lineCall room bytes m one two .report .answer ≡ answer.Refused refusal 0 →
       RefusedCall m (m .queue) one two (lineCall room bytes m one two) refusal
   pub line-runs : (room : ℕ) (bytes : List ℕ) (m : Module) (one two : List ℕ) →
       guardOf m (length one) (length two) ≡ Done → length bytes ≤ lineLimit →
       RunsLine room bytes m (m .queue) one two (lineCall room bytes m one two)
   pub line-placed : (room : ℕ) (bytes : List ℕ) (m : Module) (one two : List ℕ) (refusal : Refusal) (p : ℕ) →
-      lineCall room bytes m one two .told .answer ≡ answer.Refused refusal (p + 1) →
+      lineCall room bytes m one two .report .answer ≡ answer.Refused refusal (p + 1) →
       RunsLine room bytes m (m .queue) one two (lineCall room bytes m one two)
   -- a byte: refused before any command; the end of a line, which runs; no end of one; and where it answers a place
   -- other than 0 it ended a line, which ran
   pub byte : (room b : ℕ) (mark : Bool) (m : Module) (one two : List ℕ) (refusal : Refusal) →
-      byteCall room b mark m one two .told .answer ≡ answer.Refused refusal 0 →
+      byteCall room b mark m one two .report .answer ≡ answer.Refused refusal 0 →
       RefusedCall m (emptiedAt (m .queue) (isMarked (m .state .unit .port) mark)) one two
       (byteCall room b mark m one two) refusal
   pub byte-runs : (room b : ℕ) (mark : Bool) (m : Module) (one two : List ℕ) →
@@ -286,11 +287,11 @@ pub record RefusedChangesNothing : Type 0 where
       guardOf m (length one) (length two) ≡ Done → fedTo m b mark .ended ≡ ended.Nothing →
       OnlyQueued m (fedTo m b mark .queue) one two (byteCall room b mark m one two)
   pub byte-placed : (room b : ℕ) (mark : Bool) (m : Module) (one two : List ℕ) (refusal : Refusal) (p : ℕ) →
-      byteCall room b mark m one two .told .answer ≡ answer.Refused refusal (p + 1) →
+      byteCall room b mark m one two .report .answer ≡ answer.Refused refusal (p + 1) →
       (fedTo m b mark .ended ≡ ended.Line) × RunsWaiting room b mark m one two
   -- an event; a start and a poll, refused exactly where OfStart and RefusedPoll say
   pub event : (event : Event) (m : Module) (one two : List ℕ) (refusal : Refusal) →
-      eventCall event m one two .outcome ≡ Refused refusal →
+      eventCall event m one two .report ≡ Refused refusal →
       RefusedEvent refusal m one two (eventCall event m one two)
   pub start : (serial port first second : ℕ) (refusal : Refusal) →
       (startOf serial port first second .outcome ≡ Refused refusal)

@@ -33,6 +33,7 @@ use Rattle.state.specs.declared.State.{State}
 use Rattle.reply_text.specs.ReplyText.{endOf}
 use Rattle.module.specs.Module.{guardOf}
 use Rattle.module.specs.declared.Module.{Module}
+use Rattle.reply.specs.After.{silent}
 use Rattle.lockin.specs.Calls.{Call, lineCall}
 use Rattle.demands.specs.Representable.{ModuleFits}
 use Rattle.demands.specs.Written.{written}
@@ -118,7 +119,7 @@ pub record Ready (m : Module) (one two : List ℕ) : Type 0 where
 
 -- a call that answers 0, writes these reply bytes and changes nothing
 abbrev pub answered : List ℕ → Module → List ℕ → List ℕ → Call
-answered out m one two = record { after = m; one = one; two = two; out = out; told = toldOf Passed (length out) }
+answered out m one two = record { after = m; one = one; two = two; out = out; report = toldOf Passed (length out) }
 
 -- the settings that a state can refuse by 3
 pub data CanRefuse : List Place → Type 0 where
@@ -143,17 +144,11 @@ OthersStay places before after =
 pub data SentBack (places : List Place) (values : List ℕ) (t : Module) (one two : List ℕ) : Call → Type 0 where
   taken : (after : Module) → after .queue ≡ t .queue → valuesAt (after .state) places ≡ values →
       OthersStay places (t .state) (after .state) →
-      SentBack places values t one two
-      (record { after = after; one = one; two = two; out = []; told = toldOf Passed 0 })
+      SentBack places values t one two (silent (toldOf Passed 0) after one two)
   refused : CanRefuse places →
       SentBack places values t one two
-      (record {
-        after = record { state = markedBy NotAllowed (t .state); queue = t .queue };
-        one = one;
-        two = two;
-        out = [];
-        told = toldOf (Refused NotAllowed 1) 0;
-      })
+      (silent (toldOf (Refused NotAllowed 1) 0)
+      (record { state = markedBy NotAllowed (t .state); queue = t .queue }) one two)
 
 -- FREQ? replies the frequency in force, which is FREQ's own value in internal mode
 abbrev pub Internal : Address → State → Type 0

@@ -14,12 +14,12 @@ use Rattle.refusal.specs.Answer.{toldOf}
 use Rattle.line.specs.Line.{Line, runAll, lineOf}
 use Rattle.module.specs.Module.{guardOf}
 use Rattle.module.specs.declared.Module.{Module}
-use Rattle.lockin.specs.Calls.{Call, ran, lineCall}
+use Rattle.lockin.specs.Calls.{Call, withQueue, lineRan, lineCall}
 
 -- the line l with the commands of y after it: from its state and traces on, after its reply bytes and its places; none
 -- of them where a refusal 4 dropped the rest
 abbrev pub continued : ℕ → List ℕ → Line → Line
-continued room y l = cond (l .dropped) l (runAll room (textsOf y) l)
+continued room y l = cond (l .report .dropped) l (runAll room (textsOf y) l)
 
 -- an answer with n commands more before it, so that its place is n further on
 abbrev pub laterAnswer : ℕ → Answer → Answer
@@ -34,7 +34,7 @@ later n c =
       one = c .one;
       two = c .two;
       out = c .out;
-      told = toldOf (laterAnswer n (c .told .answer)) (c .told .length);
+      report = toldOf (laterAnswer n (c .report .answer)) (c .report .length);
     }
 
 -- x;y in a module that 11 and 9 let pass: the commands of x, and then those of y from where x left the module, its
@@ -42,10 +42,10 @@ later n c =
 -- it, the places counted on.
 pub record InTurn (room : ℕ) (x y : List ℕ) (m : Module) (one two : List ℕ) : Type 0 where
   pub both : lineCall room (x ++ semicolon ∷ y) m one two
-      ≡ ran (continued room y (lineOf room x (m .state) one two)) (m .queue)
+      ≡ withQueue (m .queue) (lineRan (continued room y (lineOf room x (m .state) one two)))
   pub calls :
       let c = lineCall room x m one two in
-      c .told .answer ≡ Passed → c .out ≡ [] →
+      c .report .answer ≡ Passed → c .out ≡ [] →
       lineCall room (x ++ semicolon ∷ y) m one two
       ≡ later (length (textsOf x)) (lineCall room y (c .after) (c .one) (c .two))
 

@@ -43,7 +43,7 @@ use Rattle.queue.specs.Queue.{lineLimit, waitingBytes, fedOf}
 use Rattle.queue.specs.declared.Queue.{Queue}
 use Rattle.queue.specs.declared.Ended.{Ended}
 use Rattle.queue.specs.declared.Ended.the-variants as ended
-use Rattle.module.specs.Start.{startOf}
+use Rattle.lockin.specs.Start.{startOf}
 use Rattle.module.specs.Module.{guardOf}
 use Rattle.module.specs.declared.Module.{Module}
 use Rattle.lockin.specs.Calls.{Call, lineCall, byteCall, EventCall, eventCall}
@@ -102,8 +102,8 @@ unfoldable pub afterTexts : ℕ → List (List ℕ) → Line → History → His
 afterTexts room [] l history = history
 afterTexts room (text ∷ more) l history =
     let next = stepOf room text l in
-    let now = afterText (parsedOf text) (l .state) history in
-    cond (next .dropped) now (afterTexts room more next now)
+    let now = afterText (parsedOf text) (l .after) history in
+    cond (next .report .dropped) now (afterTexts room more next now)
 
 -- a line that runs
 abbrev pub afterLine : ℕ → List ℕ → State → List ℕ → List ℕ → History → History
@@ -246,7 +246,7 @@ pub record PointsReplied (history : History) (m : Module) (one two : List ℕ) :
   pub beyond : (room : ℕ) (form : Form) (t bin count : ℕ) → 1 ≤ t → t ≤ traces → bin ≤ capacityMost → 1 ≤ count →
       count ≤ capacityMost →
       heldCount history m < bin + count →
-      lineCall room (traceQuery form t bin count) m one two .told .answer ≡ answer.Refused NotAllowed 1
+      lineCall room (traceQuery form t bin count) m one two .report .answer ≡ answer.Refused NotAllowed 1
 
 -- the points are replied so for every history, module and traces
 abbrev pub RepliesPoints : Type 0
@@ -266,11 +266,9 @@ pub record DoesAs (c : Call) (e : EventCall) : Type 0 where
 -- and with any traces, and both are answered 0 where neither 11 nor 9 refuses the call
 pub record TrigIsTrigger : Type 0 where
   pub command : (room : ℕ) (waiting : Bool) (s : State) (one two : List ℕ) →
-      let e = eventOf event.Trigger s one two in
-      commandOf room waiting (parsedOf (bytes "TRIG")) s one two
-      ≡ record { state = e .state; one = e .one; two = e .two; out = []; outcome = e .outcome }
+      commandOf room waiting (parsedOf (bytes "TRIG")) s one two ≡ eventOf event.Trigger s one two
   pub line : (room : ℕ) (m : Module) (one two : List ℕ) →
       DoesAs (lineCall room (bytes "TRIG") m one two) (eventCall event.Trigger m one two)
   pub answers : (room : ℕ) (m : Module) (one two : List ℕ) → guardOf m (length one) (length two) ≡ Done →
-      (lineCall room (bytes "TRIG") m one two .told ≡ toldOf answer.Passed 0)
-      × (eventCall event.Trigger m one two .outcome ≡ Done)
+      (lineCall room (bytes "TRIG") m one two .report ≡ toldOf answer.Passed 0)
+      × (eventCall event.Trigger m one two .report ≡ Done)

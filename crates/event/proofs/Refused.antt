@@ -5,18 +5,20 @@ use mathlib.Core.Bool.{Bool, true, false, cond}
 use mathlib.Core.List.{List}
 use mathlib.Core.Path.{_≡_, refl}
 use Rattle.refusal.specs.declared.Refusal.the-variants.{BadEvent}
+use Rattle.refusal.specs.declared.Outcome.{Outcome}
 use Rattle.refusal.specs.declared.Outcome.the-variants.{Done, Refused}
 use Rattle.status.specs.Status.{withRaised, mayRaise}
 use Rattle.state.specs.State.{pairOf, withRegisters, withLatest}
 use Rattle.state.specs.Allowed.{keepsLatest}
 use Rattle.state.specs.declared.State.{State}
-use Rattle.event.specs.Event.{Occurred, done, refused, pairTaken, bitsRaised, sampledIn, eventOf}
+use Rattle.reply.specs.After.{After}
+use Rattle.event.specs.Event.{done, refused, pairTaken, bitsRaised, sampledIn, eventOf}
 use Rattle.event.specs.declared.Event.{Event}
 use Rattle.event.specs.declared.Event.the-variants.{Latest, Tick, Trigger, Measured, Raised}
 
 -- the state and both traces after an event are those before
-pub record Unchanged (e : Occurred) (s : State) (one two : List ℕ) : Type 0 where
-  pub state : e .state ≡ s
+pub record Unchanged (e : After State Outcome) (s : State) (one two : List ℕ) : Type 0 where
+  pub state : e .after ≡ s
   pub first : e .one ≡ one
   pub second : e .two ≡ two
 
@@ -29,7 +31,7 @@ either : (t : Bool) (a s : State) → cond t (done a) (refused s) .outcome ≡ R
 either true a s p = done-never p
 either false a s p = refl
 
-pub event-refused : (e : Event) (s : State) (one two : List ℕ) → eventOf e s one two .outcome ≡ Refused BadEvent
+pub event-refused : (e : Event) (s : State) (one two : List ℕ) → eventOf e s one two .report ≡ Refused BadEvent
     → Unchanged (eventOf e s one two) s one two
 unfolding eventOf pairTaken bitsRaised sampledIn
 event-refused (Latest w v) s one two p =

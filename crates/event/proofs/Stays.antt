@@ -24,8 +24,8 @@ use Rattle.event.specs.declared.Event.the-variants.{Latest, Tick, Trigge
 
 -- what stays
 pub record Stays (e : Event) (s : State) (one two : List ℕ) : Type 0 where
-  pub allowed : allowedState s ≡ true → allowedState (eventOf e s one two .state) ≡ true
-  pub unit : eventOf e s one two .state .unit ≡ s .unit
+  pub allowed : allowedState s ≡ true → allowedState (eventOf e s one two .after) ≡ true
+  pub unit : eventOf e s one two .after .unit ≡ s .unit
   pub first : length (eventOf e s one two .one) ≡ length one
   pub second : length (eventOf e s one two .two) ≡ length two
 
@@ -91,7 +91,7 @@ module _ (s : State) (h : allowedState s ≡ true) where
         (lia-keeps (s .registers) (s .enables) (sound s h .bits) notTaken refl)
 
 pub event-stays : (e : Event) (s : State) (one two : List ℕ) → allowedState s ≡ true
-    → allowedState (eventOf e s one two .state) ≡ true
+    → allowedState (eventOf e s one two .after) ≡ true
 unfolding eventOf sampledIn
 event-stays (Latest w v) s one two h = pair-stays s h w v
 event-stays Tick s one two h = tick-allowed s h
@@ -111,7 +111,7 @@ unit-measured true t a b s p q = refl
 unit-measured false true a b s p q = p
 unit-measured false false a b s p q = q
 
-pub event-unit : (e : Event) (s : State) (one two : List ℕ) → eventOf e s one two .state .unit ≡ s .unit
+pub event-unit : (e : Event) (s : State) (one two : List ℕ) → eventOf e s one two .after .unit ≡ s .unit
 unfolding eventOf pairTaken bitsRaised measuredBy crossedFrom sampledIn sampledBy
 event-unit (Latest w v) s one two = unit-either (keepsLatest (pairOf w v)) (withLatest (pairOf w v) s) s refl
 event-unit Tick s one two = refl

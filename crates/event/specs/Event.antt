@@ -1,7 +1,7 @@
 -- What an event does to the state and the traces: document 01, "Events, status, identity" and "Storing points".
 use Prim.Native.Nat.{ℕ, _*_, _^_}
 use mathlib.Core.Bool.{Bool, cond, _&&_}
-use mathlib.Core.List.{List}
+use mathlib.Core.List.{List, []}
 use Rattle.refusal.specs.declared.Refusal.the-variants.{BadEvent}
 use Rattle.refusal.specs.declared.Outcome.{Outcome}
 use Rattle.refusal.specs.declared.Outcome.the-variants.{Done, Refused}
@@ -13,20 +13,18 @@ use Rattle.state.specs.State.{pairOf, atFrequency, withMoving, withRegisters, w
 use Rattle.state.specs.Storing.{triggerOf, tickOf, sampledBy, storedIn}
 use Rattle.state.specs.Allowed.{keepsLatest}
 use Rattle.state.specs.declared.State.{State}
+use Rattle.reply.specs.After.{After, silent}
 use Rattle.event.specs.declared.Happened.{Happened}
 use Rattle.event.specs.declared.Event.{Event}
 use Rattle.event.specs.declared.Event.the-variants.{Latest, Tick, Trigger, Measured, Raised}
 
--- the state and both traces after an event, and whether it was refused
-pub record Occurred : Type 0 where
-  pub state : State
-  pub outcome : Outcome
-  pub one : List ℕ
-  pub two : List ℕ
+-- what the code gives back of an event
+abbrev pub happenedOf : After State Outcome → Happened
+happenedOf e = record { state = e .after; outcome = e .report }
 
 -- an event that stores nothing
-abbrev pub quiet : Happened → List ℕ → List ℕ → Occurred
-quiet h one two = record { state = h .state; outcome = h .outcome; one = one; two = two }
+abbrev pub quiet : Happened → List ℕ → List ℕ → After State Outcome
+quiet h one two = silent (h .outcome) (h .state) one two
 
 -- refusal 6, "event value not legal (a point, a bit)": "nothing"
 abbrev pub refused : State → Happened
@@ -66,17 +64,18 @@ bitsRaised lia errors s =
     cond (mayRaise lia errors) (done (withRegisters (withRaised (s .registers) lia errors) s)) (refused s)
 
 -- a trigger or a tick: the latest pair goes into the traces where it is stored
-unfoldable pub sampledIn : Sampled → State → List ℕ → List ℕ → Occurred
+unfoldable pub sampledIn : Sampled → State → List ℕ → List ℕ → After State Outcome
 sampledIn p s one two =
     record {
-      state = sampledBy p s;
-      outcome = Done;
+      after = sampledBy p s;
       one = storedIn p s (s .latest .one) one;
       two = storedIn p s (s .latest .two) two;
+      out = [];
+      report = Done;
     }
 
 -- "Events: a new latest pair .., tick, trigger, measured frequency, raised bits"
-unfoldable pub eventOf : Event → State → List ℕ → List ℕ → Occurred
+unfoldable pub eventOf : Event → State → List ℕ → List ℕ → After State Outcome
 eventOf (Latest w v) s one two = quiet (pairTaken w v s) one two
 eventOf Tick s one two = sampledIn (tickOf s) s one two
 eventOf Trigger s one two = sampledIn (triggerOf s) s one two

@@ -1,3 +1,2 @@
--- What events do; Parts is what only inner functions are held to.
+-- What events do.
 pub mod Event
-pub mod Parts

@@ -1,8 +1,9 @@
 // Events: a new latest pair, a tick, a trigger, a measured frequency, raised bits.
 ghost use mathlib.Core.Path.{_≡_};
+ghost use mathlib.Core.List.{[]};
+ghost use Rattle.reply.specs.After.{Meets};
 ghost use Rattle.event.specs.Event.{pairTaken, takesFrequency, withExternal, measuredBy, bitsRaised};
-ghost use Rattle.event.specs.Event.{sampledIn, eventOf};
-ghost use Rattle.event.specs.Parts.{Occurs};
+ghost use Rattle.event.specs.Event.{happenedOf, sampledIn, eventOf};
 use refusal::Outcome;
 use refusal::Refusal;
 use state::Pair;
@@ -109,8 +110,8 @@ fn raised(s: State, lia: u8, errors: u8) -> Happened
 
 // A trigger or a tick: the latest pair goes into the traces where it is stored.
 fn sample(s: State, p: Sampled, one: &mut [u32], two: &mut [u32]) -> Happened
-    ensures { λ r. ⌜ Occurs
-        (sampledIn p s (now (one .entry)) (now (two .entry))) r (now (one .exit)) (now (two .exit)) ⌝ }
+    ensures { λ r. ⌜ Meets happenedOf (sampledIn p s (now (one .entry)) (now (two .entry)))
+        r (now (one .exit)) (now (two .exit)) [] [] ⌝ }
 {
     state::store(s, p, one, two);
     Happened {
@@ -121,8 +122,8 @@ fn sample(s: State, p: Sampled, one: &mut [u32], two: &mut [u32]) -> Happened
 
 // What an event does to the state and to the traces.
 pub fn occur(s: State, e: Event, one: &mut [u32], two: &mut [u32]) -> Happened
-    ensures { λ r. ⌜ Occurs
-        (eventOf e s (now (one .entry)) (now (two .entry))) r (now (one .exit)) (now (two .exit)) ⌝ }
+    ensures { λ r. ⌜ Meets happenedOf (eventOf e s (now (one .entry)) (now (two .entry)))
+        r (now (one .exit)) (now (two .exit)) [] [] ⌝ }
 {
     match e {
         Event::Latest(w, v) => new_pair(s, w, v),

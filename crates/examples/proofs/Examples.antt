@@ -32,9 +32,10 @@ use Rattle.line.specs.Perform.{doneBy, performed, commandOf}
 use Rattle.line.specs.Line as line
 use Rattle.event.specs.Event.{pairTaken, eventOf}
 use Rattle.queue.specs.Queue as queue
-use Rattle.module.specs.Start.{unitKnown, tracesFit, freshModule, startOf}
+use Rattle.module.specs.Start.{unitKnown, tracesFit, freshModule}
 use Rattle.module.specs.Module.{allowedModule, guardOf}
-use Rattle.lockin.specs.Calls.{guarded, wholeLine, lineCall, guardedEvent, eventCall}
+use Rattle.lockin.specs.Start.{startOf}
+use Rattle.lockin.specs.Calls.{guarded, lineEnd, wholeEnd, wholeLine, lineCall, eventCall}
 use Rattle.two_courses.specs.Courses.{resets, measuredHigh, triggeredHigh, gapOf, kindRefusal, textRefusal, kindAfter, textAfter}
 use Rattle.script.specs.Check.{answerAt, textsAnswer, textsAfter, lineAnswer, foundBy, found, withoutLast, checkOf}
 use Rattle.verdict.specs.Said.{said}
@@ -58,7 +59,7 @@ unfolding span onHead parts allDigits begins unsigned isMantissa isNumber decima
     doneBy performed commandOf firstOf isNoRoom drops line.afterOf line.stepOf line.runAll line.lineOf
     pairTaken eventOf queue.noEnd queue.keepsOf
     unitKnown tracesFit freshModule startOf
-    numbered numbersOf allowedModule guardOf guarded wholeLine lineCall guardedEvent eventCall
+    numbered numbersOf allowedModule guardOf guarded lineEnd wholeEnd wholeLine lineCall eventCall
     resets measuredHigh triggeredHigh gapOf kindRefusal textRefusal kindAfter textAfter answerAt textsAnswer textsAfter
     lineAnswer foundBy found withoutLast checkOf
     lineSeen low16 wordOf floatSeen said seenOf table

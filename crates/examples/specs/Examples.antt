@@ -13,7 +13,7 @@ use Rattle.event.specs.declared.Event.the-variants.{Latest}
 use Rattle.refusal.specs.Answer.{numbersOf}
 use Rattle.module.specs.declared.Module.{Module}
 use Rattle.refusal.specs.declared.Numbers.{Numbers}
-use Rattle.module.specs.Start.{startOf}
+use Rattle.lockin.specs.Start.{startOf}
 use Rattle.lockin.specs.Calls.{lineCall, eventCall}
 use Rattle.two_courses.specs.Model.{modelOf}
 use Rattle.script.specs.Check.{checkOf}
@@ -62,7 +62,7 @@ room = 64
 unfoldable pub lineSeen : Module → (one two : List ℕ) → String → Seen
 lineSeen m one two text =
     let c = lineCall room (bytes text) m one two in
-    answer (numbersOf (c .told)) (c .after .state .settings) (c .out)
+    answer (numbersOf (c .report)) (c .after .state .settings) (c .out)
 
 -- m as 16 bits, in two's complement
 unfoldable pub low16 : Whole → ℕ

@@ -1,6 +1,6 @@
 -- A command of a line, lent the reply room from the bytes already written onward. Assumes nothing.
 use Prim.Native.Nat.{ℕ, _+_, _-_, _*_, _^_, _<_, _≤_}
-use mathlib.Core.Path.{_≡_, sym, ap, _∙_}
+use mathlib.Core.Path.{_≡_, sym, ap, ap₂, _∙_}
 use mathlib.Core.List.{List, [], _++_, append-nil}
 use native.Mathlib.Omega.{arith}
 use lib.Dec.{ltb}
@@ -8,12 +8,13 @@ use lib.ListN.{length, take, drop, length-append, length-drop, drop-of-length-le
 use lib.Seq.{take-all, length-take-le}
 use Rattle.command.specs.Parsed.{parsedOf}
 use Rattle.reply.specs.Reply.{over}
+use Rattle.reply.specs.After.{Meets}
 use Rattle.reply.proofs.Over.{over-more, over-take, over-drop}
 use Rattle.line.specs.declared.Performed.{Performed}
 use Rattle.line.specs.declared.Progress.{Progress}
 use Rattle.line.specs.Perform.{Effect, commandOf}
-use Rattle.line.specs.Line.{waits, afterOf, stepOf}
-use Rattle.line.specs.Parts.{Does, progressAfter, lineAt, Runs}
+use Rattle.line.specs.Line.{afterOf, stepOf}
+use Rattle.line.specs.Parts.{performedOf, progressAfter, progressOf, lineAt}
 
 -- the part of a room from a place on, and the room once that part came back as new
 abbrev pub part : List ℕ → ℕ → List ℕ
@@ -29,34 +30,39 @@ module _ (reply : List ℕ) (at : ℕ) (h : at ≤ length reply) where
   pub part-room : length (part reply at) ≡ length reply - length (take at reply)
   part-room = ap length part-whole ∙ length-drop at reply ∙ ap (λ n. length reply - n) (sym (length-take-le at reply h))
 
-  pub mended-over : (out new : List ℕ) → new ≡ over out (part reply at) → mended reply at new ≡ over (take at reply ++ out) reply
+  pub mended-over : (out new : List ℕ) → new ≡ over out (part reply at) →
+      mended reply at new ≡ over (take at reply ++ out) reply
   mended-over out new e =
-      let n : drop (length reply - at) (drop at reply) ≡ [] = drop-of-length-le (drop at reply) {i = length reply - at} (simp length-drop (omega arith)) in
+      let n : drop (length reply - at) (drop at reply) ≡ [] =
+      drop-of-length-le (drop at reply) {i = length reply - at} (simp length-drop (omega arith)) in
       let k : length (take at reply) ≡ at = length-take-le at reply h in
       ap (λ l. take at reply ++ (new ++ l)) n
       ∙ ap (λ l. take at reply ++ l) (append-nil new ∙ e ∙ ap (over out) (part-whole ∙ ap (λ i. drop i reply) (sym k)))
       ∙ rw (over-take (take at reply) reply, over-drop (take at reply) reply) at (over-more (take at reply) out reply)
 
-  pub part-fits : (new : List ℕ) (w : ℕ) → w ≤ length new → length new ≡ length (part reply at) → length reply * 1 < 2 ^ 63 → at + w < 9223372036854775808
+  pub part-fits : (new : List ℕ) (w : ℕ) → w ≤ length new → length new ≡ length (part reply at) →
+      length reply * 1 < 2 ^ 63 → at + w < 9223372036854775808
   part-fits new w f e g = omega (arith, part-room, length-take-le at reply h)
 
   pub mended-fits : (new : List ℕ) (w : ℕ) → w ≤ length new → at + w ≤ length (mended reply at new)
   mended-fits new w f = simp (length-append, length-take-le at reply h) (omega arith)
 
+-- one more command, done in the part of the room behind the bytes already written
 pub step-holds : (p q : Progress) (text one two one′ two′ reply new : List ℕ) (d : Performed) → p .at ≤ length reply →
-    Does (commandOf (length (part reply (p .at))) (ltb 0 (p .at)) (parsedOf text) (p .state) one two) d one′ two′ new (part reply (p .at)) →
+    Meets performedOf (commandOf (length (part reply (p .at))) (ltb 0 (p .at)) (parsedOf text) (p .state) one two)
+    d one′ two′ new (part reply (p .at)) →
     q ≡ progressAfter p d →
-    Runs (stepOf (length reply) text (lineAt p one two reply)) q one′ two′ (mended reply (p .at) new) reply
+    Meets progressOf (stepOf (length reply) text (lineAt p one two reply)) q one′ two′ (mended reply (p .at) new) reply
 unfolding stepOf afterOf
 step-holds p q text one two one′ two′ reply new d h did e =
+    let command : ℕ → ℕ → Effect = λ room n. commandOf room (ltb 0 n) (parsedOf text) (p .state) one two in
     let k : length (take (p .at) reply) ≡ p .at = length-take-le (p .at) reply h in
-    let f : Effect = commandOf (length (part reply (p .at))) (ltb 0 (p .at)) (parsedOf text) (p .state) one two in
-    let g : f ≡ commandOf (length reply - length (take (p .at) reply)) (waits (take (p .at) reply)) (parsedOf text) (p .state) one two =
-    ap (λ n. commandOf n (ltb 0 (p .at)) (parsedOf text) (p .state) one two) (part-room reply (p .at) h)
-    ∙ ap (λ n. commandOf (length reply - length (take (p .at) reply)) (ltb 0 n) (parsedOf text) (p .state) one two) (sym k) in
+    let f : Effect = command (length (part reply (p .at))) (p .at) in
+    let g : f ≡ command (length reply - length (take (p .at) reply)) (length (take (p .at) reply)) =
+    ap₂ command (part-room reply (p .at) h) (sym k) in
     rw (← g)
     (record {
-      told = e ∙ ap (progressAfter p) (did .told) ∙ rw (length-append, k);
+      result = e ∙ ap (progressAfter p) (did .result) ∙ rw (length-append, k);
       first = did .first;
       second = did .second;
       reply = mended-over reply (p .at) h (f .out) new (did .reply);

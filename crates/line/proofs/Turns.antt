@@ -12,7 +12,8 @@ use Rattle.reply.specs.Reply.{over}
 use Rattle.reply.proofs.Over.{over-take, over-drop}
 use Rattle.line.specs.declared.Progress.{Progress}
 use Rattle.line.specs.Line.{Line, stepOf, runAll}
-use Rattle.line.specs.Parts.{lineAt, Runs}
+use Rattle.line.specs.Parts.{progressOf, lineAt}
+use Rattle.reply.specs.After.{Meets}
 use Rattle.clean.specs.Texts.{semicolon}
 
 -- what is left of the line does from here what the whole does from the start; the room past the bytes written is as it was
@@ -34,21 +35,21 @@ rest-on x y n m h p =
     ap (λ k. drop k x) (sym e) ∙ sym (drop-drop (m - n) n x) ∙ ap (drop (m - n)) p ∙ drop-drop (m - n) n y ∙ ap (λ k. drop k y) e
 
 -- the line that the code is at is the one that it ran
-line-at : (l : Line) (p : Progress) (one two new old : List ℕ) → Runs l p one two new old → lineAt p one two new ≡ l
-line-at l p one two new old r = rw (r .told, r .first, r .second, r .reply, over-take (l .out) old)
+line-at : (l : Line) (p : Progress) (one two new old : List ℕ) → Meets progressOf l p one two new old → lineAt p one two new ≡ l
+line-at l p one two new old r = rw (r .result, r .first, r .second, r .reply, over-take (l .out) old)
 
-past-written : (l : Line) (p : Progress) (one two new old : List ℕ) → Runs l p one two new old → drop (p .at) new ≡ drop (p .at) old
-past-written l p one two new old r = rw (r .told, r .reply, over-drop (l .out) old)
+past-written : (l : Line) (p : Progress) (one two new old : List ℕ) → Meets progressOf l p one two new old → drop (p .at) new ≡ drop (p .at) old
+past-written l p one two new old r = rw (r .result, r .reply, over-drop (l .out) old)
 
 -- the line that the code is at, as the code's answer, where the room past the bytes written is as it was
 as-ran : (l : Line) (p : Progress) (one two new old : List ℕ) → l ≡ lineAt p one two new → p .at ≤ length new → drop (p .at) new ≡ drop (p .at) old →
-    Runs l p one two new old
+    Meets progressOf l p one two new old
 unfolding over
 as-ran l p one two new old e f g =
     let k : length (take (p .at) new) ≡ p .at = length-take-le (p .at) new f in
     rw e
     (record {
-      told = rw k;
+      result = rw k;
       first = refl;
       second = refl;
       reply = rw k (sym (ap (λ t. take (p .at) new ++ t) (sym g) ∙ take-append-drop (p .at) new));
@@ -58,7 +59,7 @@ module _ {text one₀ two₀ reply₀ : List ℕ} {p₀ : Progress} {one two rep
     (v : OnWay text one₀ two₀ reply₀ p₀ one two reply p a)
     (e : ℕ) (at-e : e ≡ a + span semicolon (drop a text))
     (q : Progress) (one′ two′ reply′ : List ℕ)
-    (st : Runs (stepOf (length reply) (take (e - a) (drop a text)) (lineAt p one two reply)) q one′ two′ reply′ reply)
+    (st : Meets progressOf (stepOf (length reply) (take (e - a) (drop a text)) (lineAt p one two reply)) q one′ two′ reply′ reply)
     (on : p .at ≤ q .at) (in-room : q .at ≤ length reply′) where
   turned : runAll (length reply₀) (parts semicolon text) (lineAt p₀ one₀ two₀ reply₀)
       ≡ cond (q .dropped) (lineAt q one′ two′ reply′) (runAll (length reply₀) (drop 1 (parts semicolon (drop a text))) (lineAt q one′ two′ reply′))
@@ -73,11 +74,11 @@ module _ {text one₀ two₀ reply₀ : List ℕ} {p₀ : Progress} {one two rep
   gone-on : drop (q .at) reply′ ≡ drop (q .at) reply₀
   gone-on = past-written _ q one′ two′ reply′ reply st ∙ rest-on reply reply₀ (p .at) (q .at) on (v .rest)
 
-  pub stopped : q .dropped ≡ true → Runs (runAll (length reply₀) (parts semicolon text) (lineAt p₀ one₀ two₀ reply₀)) q one′ two′ reply′ reply₀
+  pub stopped : q .dropped ≡ true → Meets progressOf (runAll (length reply₀) (parts semicolon text) (lineAt p₀ one₀ two₀ reply₀)) q one′ two′ reply′ reply₀
   stopped d = as-ran _ q one′ two′ reply′ reply₀ (turned ∙ rw d) in-room gone-on
 
   pub ended : q .dropped ≡ false → e ≡ length text →
-      Runs (runAll (length reply₀) (parts semicolon text) (lineAt p₀ one₀ two₀ reply₀)) q one′ two′ reply′ reply₀
+      Meets progressOf (runAll (length reply₀) (parts semicolon text) (lineAt p₀ one₀ two₀ reply₀)) q one′ two′ reply′ reply₀
   unfolding runAll
   ended d l =
       let none = part-last semicolon text a e (v .inside) at-e l in

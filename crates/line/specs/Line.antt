@@ -8,20 +8,20 @@ use Rattle.clean.specs.Texts.{textsOf}
 use Rattle.refusal.specs.Answer.{firstOf, drops}
 use Rattle.command.specs.Parsed.{parsedOf}
 use Rattle.state.specs.declared.State.{State}
+use Rattle.reply.specs.After.{After, silent}
 use Rattle.line.specs.Perform.{Effect, commandOf}
 use Rattle.refusal.specs.declared.Answer.{Answer}
 use Rattle.refusal.specs.declared.Answer.the-variants.{Passed}
 
--- a line on its way: the state and both traces, the reply bytes so far, the answer so far, how many commands there
--- were, and whether the rest is dropped
-pub record Line : Type 0 where
-  pub state : State
-  pub one : List ℕ
-  pub two : List ℕ
-  pub out : List ℕ
+-- what is known of a line on its way: the answer so far, how many commands there were, and whether the rest is dropped
+pub record Tally : Type 0 where
   pub answer : Answer
   pub count : ℕ
   pub dropped : Bool
+
+-- a line on its way: what its commands so far leave
+abbrev pub Line : Type 0
+Line = After State Tally
 
 -- "4 reply bytes of this line already waiting"
 abbrev pub waits : List ℕ → Bool
@@ -30,30 +30,35 @@ waits out = ltb 0 (length out)
 -- the line after one more command
 unfoldable pub afterOf : Line → Effect → Line
 afterOf l e =
+    let count = l .report .count + 1 in
     record {
-      state = e .state;
+      after = e .after;
       one = e .one;
       two = e .two;
       out = l .out ++ e .out;
-      answer = firstOf (l .answer) (e .outcome) (l .count + 1);
-      count = l .count + 1;
-      dropped = drops (e .outcome);
+      report = record {
+        answer = firstOf (l .report .answer) (e .report) count;
+        count = count;
+        dropped = drops (e .report);
+      };
     }
 
--- one more command, of which the text is told, in a room of so many bytes for the whole line
+-- one more command, by its text, where `room` bytes are lent for the replies of the whole line
 unfoldable pub stepOf : ℕ → List ℕ → Line → Line
 stepOf room text l =
-    afterOf l (commandOf (room - length (l .out)) (waits (l .out)) (parsedOf text) (l .state) (l .one) (l .two))
+    afterOf l (commandOf (room - length (l .out)) (waits (l .out)) (parsedOf text) (l .after) (l .one) (l .two))
 
+-- the commands of these texts in turn, up to one that drops the rest
 unfoldable pub runAll : ℕ → List (List ℕ) → Line → Line
 runAll room [] l = l
 runAll room (text ∷ more) l =
     let next = stepOf room text l in
-    cond (next .dropped) next (runAll room more next)
+    cond (next .report .dropped) next (runAll room more next)
 
+-- a line before its first command
 abbrev pub startLine : State → List ℕ → List ℕ → Line
-startLine s one two = record { state = s; one = one; two = two; out = []; answer = Passed; count = 0; dropped = false }
+startLine s one two = silent (record { answer = Passed; count = 0; dropped = false }) s one two
 
--- what a line of at most 256 bytes does, in a room of so many reply bytes
+-- what a line of at most 256 bytes does, where `room` bytes are lent for its replies
 unfoldable pub lineOf : ℕ → List ℕ → State → List ℕ → List ℕ → Line
 lineOf room line s one two = runAll room (textsOf line) (startLine s one two)

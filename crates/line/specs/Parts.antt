@@ -1,7 +1,5 @@
--- What the code gives back for a command and for a line on its way: what inner functions are held to. No promise of a
--- public call speaks of these.
+-- What the code gives back for a command and for a line on its way. No promise of a public call speaks of these.
 use Prim.Native.Nat.{ℕ, _+_}
-use mathlib.Core.Path.{_≡_}
 use mathlib.Core.List.{List}
 use lib.ListN.{length, take}
 use Rattle.divide.specs.Divide.{parts}
@@ -12,22 +10,14 @@ use Rattle.refusal.specs.declared.Outcome.the-variants as outcome
 use Rattle.refusal.specs.Answer.{firstOf, drops}
 use Rattle.state.specs.State.{markedBy}
 use Rattle.state.specs.declared.State.{State}
-use Rattle.reply.specs.Reply.{over}
 use Rattle.line.specs.Perform.{Effect}
 use Rattle.line.specs.Line.{Line}
 use Rattle.line.specs.declared.Performed.{Performed}
 use Rattle.line.specs.declared.Progress.{Progress}
 
--- what the code gives back for an effect
+-- what the code gives back for a command
 abbrev pub performedOf : Effect → Performed
-performedOf e = record { state = e .state; written = length (e .out); outcome = e .outcome }
-
--- the code's answer r, the traces and the reply room after it are those of the effect; old is the room before
-pub record Does (e : Effect) (r : Performed) (one two new old : List ℕ) : Type 0 where
-  pub told : r ≡ performedOf e
-  pub first : one ≡ e .one
-  pub second : two ≡ e .two
-  pub reply : new ≡ over (e .out) old
+performedOf e = record { state = e .after; written = length (e .out); outcome = e .report }
 
 -- the code's answer for a refused command
 abbrev pub refusedWith : Refusal → State → Performed
@@ -49,32 +39,25 @@ progressAfter p d =
       dropped = drops (d .outcome);
     }
 
--- what the code gives back for a line on its way, and the line that the code is at
+-- what the code gives back for a line on its way
 abbrev pub progressOf : Line → Progress
 progressOf l =
+    let tally = l .report in
     record {
-      state = l .state;
+      state = l .after;
       at = length (l .out);
-      answer = l .answer;
-      count = l .count;
-      dropped = l .dropped;
+      answer = tally .answer;
+      count = tally .count;
+      dropped = tally .dropped;
     }
 
+-- the line that the code is at
 abbrev pub lineAt : Progress → List ℕ → List ℕ → List ℕ → Line
 lineAt p one two reply =
     record {
-      state = p .state;
+      after = p .state;
       one = one;
       two = two;
       out = take (p .at) reply;
-      answer = p .answer;
-      count = p .count;
-      dropped = p .dropped;
+      report = record { answer = p .answer; count = p .count; dropped = p .dropped };
     }
-
--- the code's answer r, the traces and the reply room after it are those of the line; old is the room before
-pub record Runs (l : Line) (r : Progress) (one two new old : List ℕ) : Type 0 where
-  pub told : r ≡ progressOf l
-  pub first : one ≡ l .one
-  pub second : two ≡ l .two
-  pub reply : new ≡ over (l .out) old

@@ -1,7 +1,7 @@
 -- What one command does to the state, the traces and the reply: document 01, "Refusal numbers".
 use Prim.Native.Nat.{ℕ}
 use mathlib.Core.Bool.{Bool, cond}
-use mathlib.Core.List.{List, []}
+use mathlib.Core.List.{List}
 use Rattle.refusal.specs.declared.Refusal.{Refusal}
 use Rattle.refusal.specs.declared.Refusal.the-variants.{NotAllowed, NoRoom}
 use Rattle.refusal.specs.declared.Outcome.{Outcome}
@@ -16,23 +16,20 @@ use Rattle.state.specs.declared.State.{State}
 use Rattle.allow.specs.Allows.{allowsOf}
 use Rattle.change.specs.Change.{storageAfter, stateAfter}
 use Rattle.reply.specs.Reply.{fitsIn}
+use Rattle.reply.specs.After.{After, silent}
 use Rattle.answer.specs.Reply.{replyOf}
 
--- the state and both traces after a command, its reply bytes, and whether it was refused
-pub record Effect : Type 0 where
-  pub state : State
-  pub one : List ℕ
-  pub two : List ℕ
-  pub out : List ℕ
-  pub outcome : Outcome
+-- what a command leaves, and whether it was refused
+abbrev pub Effect : Type 0
+Effect = After State Outcome
 
 -- a refused command: its error bit, and nothing else
 abbrev pub refusedBy : Refusal → State → List ℕ → List ℕ → Effect
-refusedBy r s one two = record { state = markedBy r s; one = one; two = two; out = []; outcome = outcome.Refused r }
+refusedBy r s one two = silent (outcome.Refused r) (markedBy r s) one two
 
 -- an empty command: "empty ones do nothing"
 abbrev pub nothing : State → List ℕ → List ℕ → Effect
-nothing s one two = record { state = s; one = one; two = two; out = []; outcome = outcome.Done }
+nothing s one two = silent outcome.Done s one two
 
 -- what a command does to storage
 abbrev pub sampledBy : Kind → State → Sampled
@@ -42,11 +39,11 @@ sampledBy kind s = storageAfter kind (s .settings) (s .moving) (s .unit .capacit
 unfoldable pub doneBy : Kind → List ℕ → State → List ℕ → List ℕ → Effect
 doneBy kind reply s one two =
     record {
-      state = stateAfter kind s;
+      after = stateAfter kind s;
       one = storedIn (sampledBy kind s) s (s .latest .one) one;
       two = storedIn (sampledBy kind s) s (s .latest .two) two;
       out = reply;
-      outcome = outcome.Done;
+      report = outcome.Done;
     }
 
 -- "for each command 1, 2 .., 3, 4": 3, "not allowed in this state"; then 4, "reply exceeds the room left"

@@ -6,8 +6,9 @@ ghost use Rattle.divide.specs.Divide.{parts};
 ghost use Rattle.command.specs.Parsed.{parsedOf};
 ghost use Rattle.line.specs.Perform.{performed, commandOf};
 ghost use Rattle.line.specs.Line.{stepOf, runAll, startLine};
-ghost use Rattle.line.specs.Parts.{Does, refusedWith, textsRun, progressAfter, lineAt, Runs};
+ghost use Rattle.line.specs.Parts.{performedOf, refusedWith, textsRun, progressAfter, progressOf, lineAt};
 ghost use Rattle.clean.specs.Texts.{semicolon};
+ghost use Rattle.reply.specs.After.{Meets};
 use command::Command;
 use command::Parsed;
 use refusal::Answer;
@@ -15,14 +16,15 @@ use refusal::Outcome;
 use refusal::Refusal;
 use state::State;
 
-// What came of one command.
+// What one command leaves: the state, the number of reply bytes written, and whether it was refused.
 pub struct Performed {
     pub state: State,
     pub written: usize,
     pub outcome: Outcome,
 }
 
-// A line on its way: the state, the reply bytes written, the answer so far, how many commands there were, and whether the rest is dropped.
+// A line on its way: the state, the number of reply bytes written, the answer so far, how many commands there were, and
+// whether the rest is dropped.
 pub struct Progress {
     pub state: State,
     pub at: usize,
@@ -51,7 +53,7 @@ fn perform(
     two: &mut [u32],
     out: &mut [u8],
 ) -> Performed
-    ensures { λ r. ⌜ Does
+    ensures { λ r. ⌜ Meets performedOf
         (performed (length (now (out .entry))) waiting (c .kind) s (now (one .entry)) (now (two .entry)))
         r (now (one .exit)) (now (two .exit)) (now (out .exit)) (now (out .entry)) ⌝ }
     ensures { λ r. ⌜ r .written ≤ length (now (out .exit)) ⌝ }
@@ -86,7 +88,7 @@ fn take_command(
     two: &mut [u32],
     out: &mut [u8],
 ) -> Performed
-    ensures { λ r. ⌜ Does
+    ensures { λ r. ⌜ Meets performedOf
         (commandOf (length (now (out .entry))) waiting (parsedOf (now (text .entry)))
         s (now (one .entry)) (now (two .entry)))
         r (now (one .exit)) (now (two .exit)) (now (out .exit)) (now (out .entry)) ⌝ }
@@ -125,7 +127,7 @@ fn after(p: Progress, d: Performed) -> Progress
 // One more command of a line.
 fn step(p: Progress, text: &[u8], one: &mut [u32], two: &mut [u32], reply: &mut [u8]) -> Progress
     requires { ⌜ (p .at ≤ length (now reply)) × (p .count < 1000) ⌝ }
-    ensures { λ r. ⌜ Runs
+    ensures { λ r. ⌜ Meets progressOf
         (stepOf (length (now (reply .entry))) (now (text .entry))
         (lineAt p (now (one .entry)) (now (two .entry)) (now (reply .entry))))
         r (now (one .exit)) (now (two .exit)) (now (reply .exit)) (now (reply .entry)) ⌝ }
@@ -140,7 +142,7 @@ fn step(p: Progress, text: &[u8], one: &mut [u32], two: &mut [u32], reply: &mut 
 // The commands of a cleaned line, one after the other, up to one that is refused by 4.
 fn run(s: State, text: &[u8], one: &mut [u32], two: &mut [u32], reply: &mut [u8]) -> Progress
     requires { ⌜ length (now text) < 257 ⌝ }
-    ensures { λ r. ⌜ Runs
+    ensures { λ r. ⌜ Meets progressOf
         (runAll (length (now (reply .entry))) (parts semicolon (now (text .entry)))
         (startLine s (now (one .entry)) (now (two .entry))))
         r (now (one .exit)) (now (two .exit)) (now (reply .exit)) (now (reply .entry)) ⌝ }
@@ -176,7 +178,7 @@ pub fn run_line(
     two: &mut [u32],
     reply: &mut [u8],
 ) -> Progress
-    ensures { λ r. ⌜ Runs
+    ensures { λ r. ⌜ Meets progressOf
         (runAll (length (now (reply .entry))) (textsRun (now (line .entry)))
         (startLine s (now (one .entry)) (now (two .entry))))
         r (now (one .exit)) (now (two .exit)) (now (reply .exit)) (now (reply .entry)) ⌝ }

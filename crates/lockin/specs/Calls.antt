@@ -2,145 +2,136 @@
 -- and "Refusal numbers".
 use Prim.Native.Nat.{ℕ}
 use mathlib.Core.Bool.{Bool, cond}
-use mathlib.Core.Path.{_≡_}
-use mathlib.Core.List.{List, []}
+use mathlib.Core.List.{List}
 use lib.Dec.{leb}
 use lib.ListN.{length}
 use Rattle.refusal.specs.declared.Refusal.{Refusal}
-use Rattle.refusal.specs.declared.Refusal.the-variants.{LongLine}
+use Rattle.refusal.specs.declared.Refusal.the-variants.{LongLine, BadState}
 use Rattle.refusal.specs.declared.Outcome.{Outcome}
 use Rattle.refusal.specs.declared.Outcome.the-variants as outcome
+use Rattle.refusal.specs.declared.Answer.the-variants as answer
+use Rattle.refusal.specs.declared.Told.{Told}
+use Rattle.refusal.specs.Answer.{toldOf}
 use Rattle.state.specs.State.{markedBy}
+use Rattle.state.specs.declared.State.{State}
 use Rattle.queue.specs.Queue as queue
+use Rattle.queue.specs.Parts.{afterRun}
 use Rattle.queue.specs.declared.Queue.{Queue}
 use Rattle.queue.specs.declared.Ended.{Ended}
 use Rattle.queue.specs.declared.Ended.the-variants as ended
-use Rattle.reply.specs.Reply.{over}
+use Rattle.reply.specs.After.{After, silent}
 use Rattle.line.specs.Line.{Line, lineOf}
-use Rattle.refusal.specs.declared.Answer.the-variants as answer
-use Rattle.event.specs.Event.{Occurred, eventOf}
+use Rattle.event.specs.Event.{eventOf}
 use Rattle.event.specs.declared.Event.{Event}
-use Rattle.module.specs.Module.{guardOf}
+use Rattle.module.specs.Module.{allowedModule, guardOf, statusBetween}
 use Rattle.module.specs.declared.Module.{Module}
-use Rattle.refusal.specs.declared.Told.{Told}
-use Rattle.refusal.specs.Meaning.{numberOf}
-use Rattle.refusal.specs.Answer.{toldOf, numbersOf}
-use Rattle.module.specs.declared.Called.{Called}
+use Rattle.lockin.specs.declared.Called.{Called}
 use Rattle.lockin.specs.declared.Taken.{Taken}
+use Rattle.lockin.specs.declared.Polled.{Polled}
 
--- a call with a line or a byte: the module and both traces after it, the reply bytes, and what is told
-pub record Call : Type 0 where
-  pub after : Module
-  pub one : List ℕ
-  pub two : List ℕ
-  pub out : List ℕ
-  pub told : Told
+-- what a call with a line or a byte leaves, and what the code gives back of it
+abbrev pub Call : Type 0
+Call = After Module Told
 
--- 11 and 9: "nothing"
-abbrev pub untouched : Refusal → Module → List ℕ → List ℕ → Call
-untouched r m one two = record { after = m; one = one; two = two; out = []; told = toldOf (answer.Refused r 0) 0 }
+abbrev pub calledOf : Call → Called
+calledOf c = record { after = c .after; told = c .report }
 
-unfoldable pub guarded : Outcome → Call → Module → List ℕ → List ℕ → Call
-guarded outcome.Done call m one two = call
-guarded (outcome.Refused r) call m one two = untouched r m one two
+-- what a call with an event leaves, and what the code gives back of it
+abbrev pub EventCall : Type 0
+EventCall = After Module Outcome
+
+abbrev pub takenOf : EventCall → Taken
+takenOf c = record { after = c .after; outcome = c .report }
+
+-- a step on the state of a module, and the queue after it
+abbrev pub withQueue : {R : Type 0} → Queue → After State R → After Module R
+withQueue q step =
+    record {
+      after = record { queue = q; state = step .after };
+      one = step .one;
+      two = step .two;
+      out = step .out;
+      report = step .report;
+    }
+
+-- 11 and 9: "nothing": the state or the module stays as it was, and the refusal is reported
+unfoldable pub guarded : {S R : Type 0} → (Refusal → R) → Outcome → After S R → S → List ℕ → List ℕ → After S R
+guarded report outcome.Done step s one two = step
+guarded report (outcome.Refused r) step s one two = silent (report r) s one two
+
+-- ---- lines and bytes
+
+-- what is reported where no command of a line has its turn: place 0, length 0
+abbrev pub refusedWhole : Refusal → Told
+refusedWhole r = toldOf (answer.Refused r 0) 0
 
 -- the length told of a line: under 4 "the line's length told as 0"
 abbrev pub lengthTold : Line → ℕ
-lengthTold l = cond (l .dropped) 0 (length (l .out))
+lengthTold l = cond (l .report .dropped) 0 (length (l .out))
 
--- a line that ran, and the queue after it
-abbrev pub ran : Line → Queue → Call
-ran l q =
+-- a line that ran
+abbrev pub lineRan : Line → After State Told
+lineRan l =
     record {
-      after = record { state = l .state; queue = q };
+      after = l .after;
       one = l .one;
       two = l .two;
       out = l .out;
-      told = toldOf (l .answer) (lengthTold l);
+      report = toldOf (l .report .answer) (lengthTold l);
     }
 
 -- 5: "line over 256 bytes": "INP set"
-abbrev pub tooLong : Module → Queue → List ℕ → List ℕ → Call
-tooLong m q one two =
-    record {
-      after = record { state = markedBy LongLine (m .state); queue = q };
-      one = one;
-      two = two;
-      out = [];
-      told = toldOf (answer.Refused LongLine 0) 0;
-    }
+abbrev pub longLine : State → List ℕ → List ℕ → After State Told
+longLine s one two = silent (refusedWhole LongLine) (markedBy LongLine s) one two
+
+-- what comes of a line's end, where the line is `text`, of a line too long, or of neither
+unfoldable pub lineEnd : Ended → ℕ → List ℕ → State → List ℕ → List ℕ → After State Told
+lineEnd ended.Nothing room text s one two = silent (toldOf answer.Passed 0) s one two
+lineEnd ended.Line room text s one two = lineRan (lineOf room text s one two)
+lineEnd ended.TooLong room text s one two = longLine s one two
+
+-- a line handed over whole, by its length
+unfoldable pub wholeEnd : ℕ → Ended
+wholeEnd len = cond (leb len queue.lineLimit) ended.Line ended.TooLong
 
 -- "A line handed over whole uses no queue; too long, it is 5 and only sets INP."
 unfoldable pub wholeLine : ℕ → List ℕ → Module → List ℕ → List ℕ → Call
 wholeLine room line m one two =
-    cond (leb (length line) queue.lineLimit)
-    (ran (lineOf room line (m .state) one two) (m .queue)) (tooLong m (m .queue) one two)
+    withQueue (m .queue) (lineEnd (wholeEnd (length line)) room line (m .state) one two)
 
+-- a call with a line handed over whole
 unfoldable pub lineCall : ℕ → List ℕ → Module → List ℕ → List ℕ → Call
-lineCall room line m one two = guarded (guardOf m (length one) (length two)) (wholeLine room line m one two) m one two
+lineCall room line m one two =
+    guarded refusedWhole (guardOf m (length one) (length two)) (wholeLine room line m one two) m one two
 
--- the line that waits in the queue runs, and the queue is empty
-unfoldable pub endedLine : Queue → ℕ → Module → List ℕ → List ℕ → Call
-endedLine q room m one two = ran (lineOf room (queue.waitingBytes q) (m .state) one two) (queue.emptiedOf q)
-
--- a byte: nothing ends, the line that waits ends and runs, or it is too long
+-- what comes of a byte that left this queue: nothing ends, or the line that waits ends, runs and leaves the queue
+-- empty, or it is too long
 unfoldable pub fedCall : Ended → Queue → ℕ → Module → List ℕ → List ℕ → Call
-fedCall ended.Nothing q room m one two =
-    record {
-      after = record { state = m .state; queue = q };
-      one = one;
-      two = two;
-      out = [];
-      told = toldOf answer.Passed 0;
-    }
-fedCall ended.Line q room m one two = endedLine q room m one two
-fedCall ended.TooLong q room m one two = tooLong m q one two
+fedCall e q room m one two = withQueue (afterRun e q) (lineEnd e room (queue.waitingBytes q) (m .state) one two)
 
+-- a byte with its end mark
 unfoldable pub fedByte : ℕ → ℕ → Bool → Module → List ℕ → List ℕ → Call
 fedByte room b mark m one two =
     let fed = queue.fedOf (m .queue) (m .state .unit .port) b mark in
     fedCall (fed .ended) (fed .queue) room m one two
 
+-- a call with a byte
 unfoldable pub byteCall : ℕ → ℕ → Bool → Module → List ℕ → List ℕ → Call
-byteCall room b mark m one two = guarded (guardOf m (length one) (length two)) (fedByte room b mark m one two) m one two
+byteCall room b mark m one two =
+    guarded refusedWhole (guardOf m (length one) (length two)) (fedByte room b mark m one two) m one two
 
--- the code's answer r, the traces and the reply room after it are those of the call; old is the room before: "Where
--- nothing is written, all lent memory keeps its bytes."
-pub record Answers (c : Call) (r : Called) (one two new old : List ℕ) : Type 0 where
-  pub after : r .after ≡ c .after
-  pub told : r .told ≡ c .told
-  -- the same in document 01's numbers: refusal, place and length
-  pub numbers : numbersOf (r .told) ≡ numbersOf (c .told)
-  pub first : one ≡ c .one
-  pub second : two ≡ c .two
-  pub reply : new ≡ over (c .out) old
+-- ---- events and the serial poll
 
--- an event: the module and both traces after it, and whether it was refused
-pub record EventCall : Type 0 where
-  pub after : Module
-  pub one : List ℕ
-  pub two : List ℕ
-  pub outcome : Outcome
-
-abbrev pub occurred : Occurred → Queue → EventCall
-occurred e q =
-    record { after = record { state = e .state; queue = q }; one = e .one; two = e .two; outcome = e .outcome }
-
-unfoldable pub guardedEvent : Outcome → EventCall → Module → List ℕ → List ℕ → EventCall
-guardedEvent outcome.Done call m one two = call
-guardedEvent (outcome.Refused r) call m one two =
-    record { after = m; one = one; two = two; outcome = outcome.Refused r }
-
+-- a call with an event
 unfoldable pub eventCall : Event → Module → List ℕ → List ℕ → EventCall
 eventCall e m one two =
-    guardedEvent (guardOf m (length one) (length two))
-    (occurred (eventOf e (m .state) one two) (m .queue)) m one two
+    guarded outcome.Refused (guardOf m (length one) (length two))
+    (withQueue (m .queue) (eventOf e (m .state) one two)) m one two
 
--- the code's answer r and the traces after it are those of the event's call
-pub record Happens (c : EventCall) (r : Taken) (one two : List ℕ) : Type 0 where
-  pub after : r .after ≡ c .after
-  pub outcome : r .outcome ≡ c .outcome
-  -- the same as document 01's number
-  pub number : numberOf (r .outcome) ≡ numberOf (c .outcome)
-  pub first : one ≡ c .one
-  pub second : two ≡ c .two
+-- a serial poll: the status byte between lines, told as 0 under 11, "a state outside the ranges, steps and limits
+-- above"
+unfoldable pub pollOf : Module → Polled
+pollOf m =
+    cond (allowedModule m)
+    (record { status = statusBetween (m .state); outcome = outcome.Done })
+    (record { status = 0; outcome = outcome.Refused BadState })

@@ -1,3 +1,4 @@
--- What the public calls do: Calls, which their promises cite; Parts, which only the code's inner functions are held to.
+-- What the public calls do: Start and Calls, which their promises cite; Parts, which only inner functions are held to.
+pub mod Start
 pub mod Calls
 pub mod Parts

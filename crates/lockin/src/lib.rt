@@ -1,24 +1,25 @@
-// The remote side of one lock-in module: start, bytes, lines handed over whole, events, and the status byte between lines. Open this crate first.
+// The remote side of one lock-in module: start, bytes, lines handed over whole, events, and the status byte between
+// lines. Open this crate first.
 ghost use mathlib.Core.Path.{_≡_};
+ghost use mathlib.Core.List.{[]};
 ghost use Prim.Native.Nat.{_≤_};
 ghost use lib.ListN.{length};
 ghost use Rattle.clean.specs.Clean.{lineLimit};
 ghost use Rattle.refusal.specs.Meaning.{numberOf};
-ghost use Rattle.refusal.specs.Answer.{toldOf};
-ghost use Rattle.event.specs.Event.{eventOf};
-ghost use Rattle.event.specs.Parts.{Occurs};
-ghost use Rattle.module.specs.Start.{startOf};
-ghost use Rattle.module.specs.Module.{pollOf};
-ghost use Rattle.lockin.specs.Calls.{lineCall, byteCall, Answers, eventCall, Happens};
-ghost use Rattle.lockin.specs.Parts.{lengthOf, lineEffect, endEffect, guardedEffect, Has, wholeEnd};
-ghost use Rattle.lockin.specs.Parts.{GuardedStep, guardedOccurred};
+ghost use Rattle.refusal.specs.Answer.{toldOf, numbersOf};
+ghost use Rattle.refusal.specs.declared.Outcome.the-variants.{Refused};
+ghost use Rattle.reply.specs.After.{Meets};
+ghost use Rattle.line.specs.Line.{lineOf};
+ghost use Rattle.event.specs.Event.{happenedOf, eventOf};
+ghost use Rattle.module.specs.Module.{guardOf};
+ghost use Rattle.lockin.specs.Start.{refusedStart, startOf};
+ghost use Rattle.lockin.specs.Calls.{lineCall, byteCall, calledOf, eventCall, takenOf, pollOf};
+ghost use Rattle.lockin.specs.Calls.{guarded, refusedWhole, lineRan, lineEnd, wholeEnd};
+ghost use Rattle.lockin.specs.Parts.{lengthOf, resultOf, GuardedStep};
 pub use event::Event;
 use event::Happened;
 use line::Progress;
-pub use module::Called;
 pub use module::Module;
-pub use module::Polled;
-pub use module::Started;
 use queue::Ended;
 use queue::Queue;
 use queue::QueueStep;
@@ -29,12 +30,48 @@ pub use refusal::Refusal;
 pub use refusal::Told;
 pub use refusal::number_of;
 pub use refusal::numbers_of;
+use settings::Settings;
 use state::State;
+use state::Unit;
 
-// The module after an event, and whether it was refused.
+// A start: the module, and whether the start was refused.
+pub struct Started {
+    pub after: Module,
+    pub outcome: Outcome,
+}
+
+// A call with a line or a byte: the module after it, and its report. A byte that ends no line reports that nothing is
+// refused, and length 0.
+pub struct Called {
+    pub after: Module,
+    pub told: Told,
+}
+
+// A call with an event: the module after it, and whether it was refused.
 pub struct Taken {
     pub after: Module,
     pub outcome: Outcome,
+}
+
+// A serial poll: the status byte, 0 where the state was refused.
+pub struct Polled {
+    pub status: u8,
+    pub outcome: Outcome,
+}
+
+// A refused start gives a fresh module with serial 0, GPIB and capacity 1.
+fn refused_start(refusal: Refusal) -> Started
+    ensures { λ r. ⌜ r ≡ refusedStart refusal ⌝ }
+{
+    let unit = Unit {
+        serial: 0,
+        port: state::GPIB,
+        capacity: Settings::CAPACITY_LEAST,
+    };
+    Started {
+        after: module::fresh(unit),
+        outcome: Outcome::Refused(refusal),
+    }
 }
 
 // A fresh module over two traces, which are not written. Port 0 is RS232, 1 is GPIB.
@@ -43,16 +80,45 @@ pub fn start(serial: u32, port: u32, one: &[u32], two: &[u32]) -> Started
     ensures { λ r. ⌜ numberOf (r .outcome)
         ≡ numberOf (startOf serial port (length (now (one .entry))) (length (now (two .entry))) .outcome) ⌝ }
 {
-    module::start(serial, port, one.len(), two.len())
+    if module::unit_known(serial, port) {
+        if module::traces_fit(one.len(), two.len()) {
+            let unit = Unit {
+                serial,
+                port: (port % 256) as u8,
+                capacity: (one.len() % 65536) as u32,
+            };
+            return Started {
+                after: module::fresh(unit),
+                outcome: Outcome::Done,
+            };
+        }
+        return refused_start(Refusal::BadTraces);
+    }
+    refused_start(Refusal::BadStart)
 }
 
-// The state after a line or a byte, and what is told.
+// Refusals 11 and 9 for a call on a module with traces of these lengths.
+fn guard(m: Module, first: usize, second: usize) -> Outcome
+    ensures { λ r. ⌜ r ≡ guardOf m first second ⌝ }
+{
+    let bytes = m.queue.bytes;
+    module::guard(
+        m.state,
+        &bytes,
+        m.queue.len,
+        m.queue.dropping,
+        first,
+        second,
+    )
+}
+
+// What a line's end leaves of the state, and what is reported.
 struct StateResult {
     state: State,
     told: Told,
 }
 
-// The length told of a line that ran.
+// The length reported of a line that ran.
 fn length_told(p: Progress) -> usize
     ensures { λ r. ⌜ r ≡ lengthOf p ⌝ }
 {
@@ -66,8 +132,8 @@ fn length_told(p: Progress) -> usize
 // A line that runs.
 fn run(s: State, text: &[u8], one: &mut [u32], two: &mut [u32], reply: &mut [u8]) -> StateResult
     requires { ⌜ length (now text) ≤ lineLimit ⌝ }
-    ensures { λ r. ⌜ Has
-        (lineEffect (length (now (reply .entry))) (now (text .entry)) s (now (one .entry)) (now (two .entry)))
+    ensures { λ r. ⌜ Meets resultOf
+        (lineRan (lineOf (length (now (reply .entry))) (now (text .entry)) s (now (one .entry)) (now (two .entry))))
         r (now (one .exit)) (now (two .exit)) (now (reply .exit)) (now (reply .entry)) ⌝ }
 {
     let p = line::run_line(s, text, one, two, reply);
@@ -80,7 +146,7 @@ fn run(s: State, text: &[u8], one: &mut [u32], two: &mut [u32], reply: &mut [u8]
     }
 }
 
-// Nothing is done but the telling of an answer.
+// Nothing is done but the report of an answer.
 fn tell(s: State, answer: Answer) -> StateResult
     ensures { λ r. ⌜ r ≡ record { state = s; told = toldOf answer 0 } ⌝ }
 {
@@ -100,8 +166,8 @@ fn end_line(
     reply: &mut [u8],
 ) -> StateResult
     requires { ⌜ length (now text) ≤ lineLimit ⌝ }
-    ensures { λ r. ⌜ Has
-        (endEffect ended (length (now (reply .entry))) (now (text .entry)) s (now (one .entry)) (now (two .entry)))
+    ensures { λ r. ⌜ Meets resultOf
+        (lineEnd ended (length (now (reply .entry))) (now (text .entry)) s (now (one .entry)) (now (two .entry)))
         r (now (one .exit)) (now (two .exit)) (now (reply .exit)) (now (reply .entry)) ⌝ }
 {
     match ended {
@@ -125,9 +191,9 @@ fn end_guarded(
     reply: &mut [u8],
 ) -> StateResult
     requires { ⌜ length (now text) ≤ lineLimit ⌝ }
-    ensures { λ r. ⌜ Has
-        (guardedEffect outcome
-        (endEffect ended (length (now (reply .entry))) (now (text .entry)) s (now (one .entry)) (now (two .entry)))
+    ensures { λ r. ⌜ Meets resultOf
+        (guarded refusedWhole outcome
+        (lineEnd ended (length (now (reply .entry))) (now (text .entry)) s (now (one .entry)) (now (two .entry)))
         s (now (one .entry)) (now (two .entry)))
         r (now (one .exit)) (now (two .exit)) (now (reply .exit)) (now (reply .entry)) ⌝ }
 {
@@ -137,7 +203,7 @@ fn end_guarded(
     }
 }
 
-// A line of so many bytes handed over whole: it ends, or is too long.
+// A line of `len` bytes handed over whole: it ends, or is too long.
 fn whole_end(len: usize) -> Ended
     ensures { λ r. ⌜ r ≡ wholeEnd len ⌝ }
 {
@@ -155,21 +221,15 @@ pub fn take_line(
     two: &mut [u32],
     reply: &mut [u8],
 ) -> Called
-    ensures { λ r. ⌜ Answers
+    ensures { λ r. ⌜ Meets calledOf
         (lineCall (length (now (reply .entry))) (now (text .entry)) m (now (one .entry)) (now (two .entry)))
         r (now (one .exit)) (now (two .exit)) (now (reply .exit)) (now (reply .entry)) ⌝ }
+    ensures { λ r. ⌜ numbersOf (r .told) ≡ numbersOf
+        (lineCall (length (now (reply .entry))) (now (text .entry)) m (now (one .entry)) (now (two .entry)) .report) ⌝ }
 {
     let state = m.state;
     let queue = m.queue;
-    let bytes = m.queue.bytes;
-    let outcome = module::guard(
-        state,
-        &bytes,
-        queue.len,
-        queue.dropping,
-        one.len(),
-        two.len(),
-    );
+    let outcome = guard(m, one.len(), two.len());
     let ended = whole_end(text.len());
     let end = queue::line_end(text.len());
     let r = end_guarded(state, outcome, ended, &text[0..end], one, two, reply);
@@ -217,9 +277,11 @@ pub fn take_byte(
     two: &mut [u32],
     reply: &mut [u8],
 ) -> Called
-    ensures { λ r. ⌜ Answers
+    ensures { λ r. ⌜ Meets calledOf
         (byteCall (length (now (reply .entry))) b mark m (now (one .entry)) (now (two .entry)))
         r (now (one .exit)) (now (two .exit)) (now (reply .exit)) (now (reply .entry)) ⌝ }
+    ensures { λ r. ⌜ numbersOf (r .told) ≡ numbersOf
+        (byteCall (length (now (reply .entry))) b mark m (now (one .entry)) (now (two .entry)) .report) ⌝ }
 {
     let state = m.state;
     let port = m.state.unit.port;
@@ -249,11 +311,10 @@ pub fn take_byte(
 
 // What an event does to the state, or its refusal by 11 or 9.
 fn occur_guarded(s: State, outcome: Outcome, e: Event, one: &mut [u32], two: &mut [u32]) -> Happened
-    ensures { λ r. ⌜ Occurs
-        (guardedOccurred outcome
-        (eventOf e s (now (one .entry)) (now (two .entry)))
+    ensures { λ r. ⌜ Meets happenedOf
+        (guarded Refused outcome (eventOf e s (now (one .entry)) (now (two .entry)))
         s (now (one .entry)) (now (two .entry)))
-        r (now (one .exit)) (now (two .exit)) ⌝ }
+        r (now (one .exit)) (now (two .exit)) [] [] ⌝ }
 {
     match outcome {
         Outcome::Done => event::occur(s, e, one, two),
@@ -264,24 +325,16 @@ fn occur_guarded(s: State, outcome: Outcome, e: Event, one: &mut [u32], two: &mu
     }
 }
 
-// An event.
+// An event. It is lent no reply room.
 pub fn take_event(m: Module, e: Event, one: &mut [u32], two: &mut [u32]) -> Taken
-    ensures { λ r. ⌜ Happens
-        (eventCall e m (now (one .entry)) (now (two .entry)))
-        r (now (one .exit)) (now (two .exit)) ⌝ }
+    ensures { λ r. ⌜ Meets takenOf (eventCall e m (now (one .entry)) (now (two .entry)))
+        r (now (one .exit)) (now (two .exit)) [] [] ⌝ }
+    ensures { λ r. ⌜ numberOf (r .outcome) ≡ numberOf (eventCall e m (now (one .entry)) (now (two .entry)) .report) ⌝ }
 {
     let state = m.state;
     let queue = m.queue;
-    let bytes = m.queue.bytes;
-    let guard = module::guard(
-        state,
-        &bytes,
-        queue.len,
-        queue.dropping,
-        one.len(),
-        two.len(),
-    );
-    let h = occur_guarded(state, guard, e, one, two);
+    let allowed = guard(m, one.len(), two.len());
+    let h = occur_guarded(state, allowed, e, one, two);
     let after = h.state;
     let outcome = h.outcome;
     Taken {
@@ -298,5 +351,16 @@ pub fn poll(m: Module) -> Polled
     ensures { λ r. ⌜ r ≡ pollOf m ⌝ }
     ensures { λ r. ⌜ numberOf (r .outcome) ≡ numberOf (pollOf m .outcome) ⌝ }
 {
-    module::poll(m)
+    let state = m.state;
+    let bytes = m.queue.bytes;
+    if module::allowed(state, &bytes, m.queue.len, m.queue.dropping) {
+        return Polled {
+            status: module::status_between(state),
+            outcome: Outcome::Done,
+        };
+    }
+    Polled {
+        status: 0,
+        outcome: Outcome::Refused(Refusal::BadState),
+    }
 }

@@ -1,4 +1,5 @@
--- A module: whether a call may be done, the status byte and the serial poll: document 01, "Refusal numbers" and "Events, status, identity".
+-- A module: whether a call may be done, and the status byte: document 01, "Refusal numbers" and "Events, status,
+-- identity".
 use Prim.Native.Nat.{ℕ}
 use mathlib.Core.Bool.{Bool, true, false, cond, _&&_}
 use lib.Dec.{eqb}
@@ -11,7 +12,6 @@ use Rattle.status.specs.Status.{statusByte}
 use Rattle.storage.specs.Storage.{atRest}
 use Rattle.queue.specs.Queue as queue
 use Rattle.module.specs.declared.Module.{Module}
-use Rattle.module.specs.declared.Polled.{Polled}
 
 -- refusal 11: "a state outside the ranges, steps and limits above"; the queue is part of it
 unfoldable pub allowedModule : Module → Bool
@@ -21,17 +21,12 @@ allowedModule m = allowedState (m .state) && queue.keepsOf (m .queue) (m .state 
 unfoldable pub guardOf : Module → ℕ → ℕ → Outcome
 guardOf m first second =
     cond (allowedModule m)
-    (cond (eqb first (m .state .unit .capacity) && eqb second (m .state .unit .capacity)) outcome.Done (outcome.Refused BadTraces))
+    (cond (eqb first (m .state .unit .capacity) && eqb second (m .state .unit .capacity)) outcome.Done
+    (outcome.Refused BadTraces))
     (outcome.Refused BadState)
 
 -- the status byte between lines: "1 no command running", "4 .. (0 between lines)"
 unfoldable pub statusBetween : State → ℕ
 statusBetween s =
-    statusByte (s .registers) (s .enables) (record { «at_rest» = atRest (s .moving .storage); idle = true; waiting = false })
-
--- a serial poll: the status byte between lines, told as 0 under 11, "a state outside the ranges, steps and limits above"
-unfoldable pub pollOf : Module → Polled
-pollOf m =
-    cond (allowedModule m)
-    (record { status = statusBetween (m .state); outcome = outcome.Done })
-    (record { status = 0; outcome = outcome.Refused BadState })
+    statusByte (s .registers) (s .enables)
+    (record { «at_rest» = atRest (s .moving .storage); idle = true; waiting = false })

@@ -1,15 +1,14 @@
-// A module: its state and its queue; the start, the serial poll, and refusals 9, 10 and 11.
+// A module: its state and its queue, fresh or at any time; its status byte; and refusals 9, 10 and 11.
 ghost use mathlib.Core.Path.{_≡_};
 ghost use lib.ListN.{length};
 ghost use Rattle.queue.specs.Queue.{lineLimit};
 ghost use Rattle.queue.specs.Parts.{queueOf};
-ghost use Rattle.module.specs.Start.{unitKnown, tracesFit, freshModule, refusedStart, startOf};
-ghost use Rattle.module.specs.Module.{allowedModule, guardOf, statusBetween, pollOf};
+ghost use Rattle.module.specs.Start.{unitKnown, tracesFit, freshModule};
+ghost use Rattle.module.specs.Module.{allowedModule, guardOf, statusBetween};
 use clean::LINE;
 use queue::Queue;
 use refusal::Outcome;
 use refusal::Refusal;
-use refusal::Told;
 use settings::Settings;
 use state::State;
 use state::Unit;
@@ -20,24 +19,6 @@ use status::Poll;
 pub struct Module {
     pub queue: Queue,
     pub state: State,
-}
-
-// A start: the module, and whether the start was refused.
-pub struct Started {
-    pub after: Module,
-    pub outcome: Outcome,
-}
-
-// A serial poll: the status byte, 0 where the state was refused.
-pub struct Polled {
-    pub status: u8,
-    pub outcome: Outcome,
-}
-
-// The module after a line or a byte, and what is told. A byte that ends no line tells nothing refused and length 0.
-pub struct Called {
-    pub after: Module,
-    pub told: Told,
 }
 
 // Serial number and port as a start takes them, else refusal 10.
@@ -64,42 +45,6 @@ pub fn fresh(unit: Unit) -> Module
         state: State::start(unit),
         queue: Queue::empty(),
     }
-}
-
-// A refused start gives a fresh module with serial 0, GPIB and capacity 1.
-pub fn refused_start(refusal: Refusal) -> Started
-    ensures { λ r. ⌜ r ≡ refusedStart refusal ⌝ }
-{
-    let unit = Unit {
-        serial: 0,
-        port: state::GPIB,
-        capacity: Settings::CAPACITY_LEAST,
-    };
-    Started {
-        after: fresh(unit),
-        outcome: Outcome::Refused(refusal),
-    }
-}
-
-// A fresh module over two traces of these lengths. Port 0 is RS232, 1 is GPIB.
-pub fn start(serial: u32, port: u32, first: usize, second: usize) -> Started
-    ensures { λ r. ⌜ r ≡ startOf serial port first second ⌝ }
-{
-    if unit_known(serial, port) {
-        if traces_fit(first, second) {
-            let unit = Unit {
-                serial,
-                port: (port % 256) as u8,
-                capacity: (first % 65536) as u32,
-            };
-            return Started {
-                after: fresh(unit),
-                outcome: Outcome::Done,
-            };
-        }
-        return refused_start(Refusal::BadTraces);
-    }
-    refused_start(Refusal::BadStart)
 }
 
 // Whether a module may have this state and a queue of these bytes, else refusal 11. The bytes are lent, not copied.
@@ -143,22 +88,4 @@ pub fn status_between(s: State) -> u8
         waiting: false,
     };
     status::status_byte(s.registers, s.enables, poll)
-}
-
-// The status byte between lines, as a serial poll reads it.
-pub fn poll(m: Module) -> Polled
-    ensures { λ r. ⌜ r ≡ pollOf m ⌝ }
-{
-    let state = m.state;
-    let bytes = m.queue.bytes;
-    if allowed(state, &bytes, m.queue.len, m.queue.dropping) {
-        return Polled {
-            status: status_between(state),
-            outcome: Outcome::Done,
-        };
-    }
-    Polled {
-        status: 0,
-        outcome: Outcome::Refused(Refusal::BadState),
-    }
 }

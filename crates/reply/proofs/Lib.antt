@@ -2,3 +2,4 @@
 pub mod Over
 pub mod Points
 pub mod Sending
+pub mod After

@@ -34,10 +34,12 @@ unfolding over
 over-drop a room = drop-append-seam a (drop (length a) room)
 
 -- a second reply in the part that begins after the first: both joined in order
-pub over-more : (a b room : List ℕ) → take (length a) (over a room) ++ over b (drop (length a) (over a room)) ≡ over (a ++ b) room
+pub over-more : (a b room : List ℕ) →
+    take (length a) (over a room) ++ over b (drop (length a) (over a room)) ≡ over (a ++ b) room
 unfolding over
 over-more a b room =
-    rw (take-append-seam a (drop (length a) room), drop-append-seam a (drop (length a) room), drop-drop, length-append, append-assoc)
+    let rest = drop (length a) room in
+    rw (take-append-seam a rest, drop-append-seam a rest, drop-drop, length-append, append-assoc)
 
 -- a turn of the loop that copies: one byte more of s at the front of o
 pub front-more : (s o : List ℕ) (i : ℕ) → i < length s → i < length o
@@ -61,9 +63,11 @@ unfolding lowFirst littleEndian
 word-length x = refl
 
 -- four bytes a point
-pub pointBytes-length : (form : Form) (trace : List ℕ) (place count : ℕ) → length (pointBytes form trace place count) ≡ 4 * count
+pub pointBytes-length : (form : Form) (trace : List ℕ) (place count : ℕ) →
+    length (pointBytes form trace place count) ≡ 4 * count
 unfolding pointBytes
 pointBytes-length form trace place zero = refl
 pointBytes-length form trace place (suc count) =
-    let e : length (pointBytes form trace (suc place) count) ≡ 4 * count = pointBytes-length form trace (suc place) count in
+    let e : length (pointBytes form trace (suc place) count) ≡ 4 * count =
+    pointBytes-length form trace (suc place) count in
     rw (length-append, word-length, e) (omega arith)

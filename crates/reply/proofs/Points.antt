@@ -15,16 +15,19 @@ use Rattle.reply.proofs.Over.{word-length}
 
 -- bytes w put at the place n of o: what is still to come follows them
 pub put-more : (w p o : List ℕ) (n m : ℕ) → length w ≡ m → n + m ≤ length o
-    → take (n + m) (take n o ++ w ++ drop (n + m) o) ++ over p (drop (n + m) (take n o ++ w ++ drop (n + m) o)) ≡ take n o ++ over (w ++ p) (drop n o)
+    → take (n + m) (take n o ++ w ++ drop (n + m) o) ++ over p (drop (n + m) (take n o ++ w ++ drop (n + m) o))
+    ≡ take n o ++ over (w ++ p) (drop n o)
 unfolding over
 put-more w p o n m e h =
     let q : List ℕ = take n o ++ w in
-    let l : length q ≡ n + m = length-append (take n o) w ∙ ap (λ k. k + length w) (length-take-le n o (omega arith)) ∙ ap (λ k. n + k) e in
+    let l : length q ≡ n + m =
+    length-append (take n o) w ∙ ap (λ k. k + length w) (length-take-le n o (omega arith)) ∙ ap (λ k. n + k) e in
     rw (take-at q (drop (n + m) o) (n + m) l, drop-at q (drop (n + m) o) (n + m) l)
     (simp (append-assoc, drop-drop, length-append, e, add-assoc))
 
 -- a turn of the loop that writes points
-pub points-more : (form : Form) (trace o : List ℕ) (place i count x : ℕ) → x ≡ formed form (wordAt trace (place + i)) → i < count → 4 * i + 4 ≤ length o
+pub points-more : (form : Form) (trace o : List ℕ) (place i count x : ℕ) → x ≡ formed form (wordAt trace (place + i)) →
+    i < count → 4 * i + 4 ≤ length o
     → let new = take (4 * i) o ++ littleEndian x ++ drop (4 * i + 4) o in
     take (4 * (i + 1)) new ++ over (pointBytes form trace (place + (i + 1)) (count - (i + 1))) (drop (4 * (i + 1)) new)
     ≡ take (4 * i) o ++ over (pointBytes form trace (place + i) (count - i)) (drop (4 * i) o)
@@ -36,7 +39,8 @@ points-more form trace o place i count x e h l =
     rw (e, a, b, d) (put-more _ _ o (4 * i) 4 (word-length _) l)
 
 -- only the words count
-pub same-words : (form : Form) (trace : List ℕ) (p q count : ℕ) → ((i : ℕ) → wordAt trace (p + i) ≡ wordAt trace (q + i))
+pub same-words : (form : Form) (trace : List ℕ) (p q count : ℕ) →
+    ((i : ℕ) → wordAt trace (p + i) ≡ wordAt trace (q + i))
     → pointBytes form trace p count ≡ pointBytes form trace q count
 unfolding pointBytes
 same-words form trace p q zero h = refl
@@ -53,11 +57,13 @@ same-words form trace p q (suc count) h =
 slot-mod : (slots place : ℕ) → 0 < slots → slotOf slots place ≡ place % slots
 slot-mod slots place h = rw (ne-eqb slots 0 (omega arith))
 
-pub word-slot : (trace : List ℕ) (place slot : ℕ) → slot ≡ slotOf (length trace) place → slot < length trace → getD trace slot 0 ≡ wordAt trace place
+pub word-slot : (trace : List ℕ) (place slot : ℕ) → slot ≡ slotOf (length trace) place → slot < length trace →
+    getD trace slot 0 ≡ wordAt trace place
 unfolding wordAt
 word-slot trace place slot e h = ap (λ n. getD trace n 0) (e ∙ slot-mod (length trace) place (omega arith))
 
-pub word-none : (trace : List ℕ) (place slot : ℕ) → slot ≡ slotOf (length trace) place → length trace ≤ slot → wordAt trace place ≡ 0
+pub word-none : (trace : List ℕ) (place slot : ℕ) → slot ≡ slotOf (length trace) place → length trace ≤ slot →
+    wordAt trace place ≡ 0
 unfolding wordAt
 word-none [] place slot e h = refl
 word-none (x ∷ xs) place slot e h =

@@ -8,28 +8,26 @@ use borrow.Author.Tests.{le-leb, lt-leb}
 use lib.Dec.{leb}
 use lib.ListN.{length, take, drop}
 use Rattle.name.specs.declared.Form.{Form}
-use Rattle.reply.specs.declared.Sent.{Sent}
 use Rattle.reply.specs.Reply.{over, fitsIn, sentBytes, pointBytes}
-use Rattle.reply.specs.Parts.{sentOf, slotOf}
+use Rattle.reply.specs.Parts.{Sends, slotOf}
 use Rattle.reply.proofs.Over.{pointBytes-length}
 use Rattle.reply.proofs.Points.{points-slot}
 
--- what the contracts say: what is told, and the room's bytes afterwards
-abbrev pub Told : List ℕ → List ℕ → Sent → List ℕ → Type 0
-Told bytes room r new = (r ≡ sentOf bytes (length room)) × (new ≡ over (sentBytes bytes (length room)) room)
-
-pub not-sent : (bytes room : List ℕ) → length room < length bytes → Told bytes room (record { fits = false; written = 0 }) room
+-- a reply that does not fit leaves the room as it was
+pub not-sent : (bytes room : List ℕ) → length room < length bytes →
+    Sends bytes (record { fits = false; written = 0 }) room room
 unfolding over fitsIn sentBytes
 not-sent bytes room h =
     let t : leb (length bytes) (length room) ≡ false = lt-leb (length bytes) (length room) h in
-    (rw t, rw t)
+    record { sent = rw t; reply = rw t }
 
-pub all-sent : (bytes room new : List ℕ) (n : ℕ) → length bytes ≡ n → n ≤ length room → new ≡ over bytes room
-    → Told bytes room (record { fits = true; written = n }) new
+-- a reply that fits is sent whole
+pub all-sent : (bytes room new : List ℕ) (n : ℕ) → length bytes ≡ n → n ≤ length room → new ≡ over bytes room →
+    Sends bytes (record { fits = true; written = n }) new room
 unfolding fitsIn sentBytes
 all-sent bytes room new n l h e =
     let t : leb (length bytes) (length room) ≡ true = le-leb (length bytes) (length room) (omega arith) in
-    (rw (t, l), rw t e)
+    record { sent = rw (t, l); reply = rw t e }
 
 -- what a text says, taken by its length from the bytes that it holds
 take-shown : (len : ℕ) (bytes : List ℕ) → take (length (take len bytes)) bytes ≡ take len bytes
@@ -37,15 +35,17 @@ take-shown zero bytes = refl
 take-shown (suc n) [] = refl
 take-shown (suc n) (b ∷ bytes) = ap (λ l. b ∷ l) (take-shown n bytes)
 
-pub text-sent : (len : ℕ) (bytes room new : List ℕ) (n : ℕ) → n ≡ length (take len bytes) → n ≤ length room → new ≡ take n bytes ++ drop n room
-    → Told (take len bytes) room (record { fits = true; written = n }) new
+-- a text that fits
+pub text-sent : (len : ℕ) (bytes room new : List ℕ) (n : ℕ) → n ≡ length (take len bytes) → n ≤ length room →
+    new ≡ take n bytes ++ drop n room → Sends (take len bytes) (record { fits = true; written = n }) new room
 unfolding over
 text-sent len bytes room new n e h p =
     all-sent (take len bytes) room new n (sym e) h (p ∙ rw e (rw (take-shown len bytes) refl))
 
 -- points written from the slot of their place on
-pub points-sent : (form : Form) (trace : List ℕ) (place count slot : ℕ) (room new : List ℕ) → slot ≡ slotOf (length trace) place → 4 * count ≤ length room
-    → new ≡ over (pointBytes form trace slot count) room → Told (pointBytes form trace place count) room (record { fits = true; written = 4 * count }) new
+pub points-sent : (form : Form) (trace : List ℕ) (place count slot : ℕ) (room new : List ℕ) →
+    slot ≡ slotOf (length trace) place → 4 * count ≤ length room → new ≡ over (pointBytes form trace slot count) room →
+    Sends (pointBytes form trace place count) (record { fits = true; written = 4 * count }) new room
 points-sent form trace place count slot room new e h p =
     all-sent (pointBytes form trace place count) room new (4 * count) (pointBytes-length form trace place count) h
     (p ∙ ap (λ bytes. over bytes room) (ap (λ n. pointBytes form trace n count) e ∙ points-slot form trace place count))

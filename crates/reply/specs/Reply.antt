@@ -9,8 +9,8 @@ use Rattle.point.specs.Bytes.{littleEndian}
 use Rattle.name.specs.declared.Form.{Form}
 use Rattle.name.specs.declared.Form.the-variants.{Words, Floats}
 
--- "each command of a line is lent the reply buffer from the bytes already written onward": the room's bytes after a reply are the reply's own bytes,
--- then those that stood there
+-- "each command of a line is lent the reply buffer from the bytes already written onward": the room's bytes after a
+-- reply are the reply's own bytes, then those that stood there
 unfoldable pub over : List ℕ → List ℕ → List ℕ
 over bytes room = bytes ++ drop (length bytes) room
 

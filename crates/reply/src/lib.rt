@@ -5,8 +5,8 @@ ghost use Prim.Native.Nat.{_+_, _*_, _<_, _≤_};
 ghost use lib.ListN.{length, take, drop};
 ghost use Rattle.text.specs.Parts.{shown};
 ghost use Rattle.point.specs.Bytes.{littleEndian};
-ghost use Rattle.reply.specs.Reply.{over, sentBytes, wordAt, formed, pointBytes};
-ghost use Rattle.reply.specs.Parts.{sentOf, slotOf};
+ghost use Rattle.reply.specs.Reply.{over, wordAt, formed, pointBytes};
+ghost use Rattle.reply.specs.Parts.{Sends, slotOf};
 use name::Form;
 use text::Text;
 
@@ -40,7 +40,7 @@ fn copy(bytes: &[u8], n: usize, out: &mut [u8])
 
 // The text at the front of out, where it fits; else nothing.
 pub fn send(t: Text, out: &mut [u8]) -> Sent
-    ensures { λ r. ⌜ (r ≡ sentOf (shown t) (length (now (out .entry)))) × (now (out .exit) ≡ over (sentBytes (shown t) (length (now (out .entry)))) (now (out .entry))) ⌝ }
+    ensures { λ r. ⌜ Sends (shown t) r (now (out .exit)) (now (out .entry)) ⌝ }
 {
     let bytes = t.bytes;
     let n = shown_length(&bytes, t.len);
@@ -92,7 +92,8 @@ fn formed_word(form: Form, word: u32) -> u32
 // The four bytes of x, low byte first, at a place of out.
 fn put_word(x: u32, at: usize, out: &mut [u8])
     requires { ⌜ at + 4 ≤ length (now out) ⌝ }
-    ensures { λ _. ⌜ now (out .exit) ≡ take at (now (out .entry)) ++ littleEndian x ++ drop (at + 4) (now (out .entry)) ⌝ }
+    ensures { λ _. ⌜ now (out .exit)
+        ≡ take at (now (out .entry)) ++ littleEndian x ++ drop (at + 4) (now (out .entry)) ⌝ }
 {
     let bytes = point::word_bytes(x);
     out[at] = bytes[0];
@@ -115,9 +116,11 @@ fn put_points(trace: &[u32], first: usize, count: usize, form: Form, out: &mut [
     }
 }
 
-// The points of a trace from a place on, as words or as floats, four bytes each, at the front of out where they fit; else nothing.
+// The points of a trace from a place on, as words or as floats, four bytes each, at the front of out where they fit;
+// else nothing.
 pub fn send_points(trace: &[u32], place: u64, count: u32, form: Form, out: &mut [u8]) -> Sent
-    ensures { λ r. ⌜ (r ≡ sentOf (pointBytes form (now (trace .entry)) place count) (length (now (out .entry)))) × (now (out .exit) ≡ over (sentBytes (pointBytes form (now (trace .entry)) place count) (length (now (out .entry)))) (now (out .entry))) ⌝ }
+    ensures { λ r. ⌜ Sends (pointBytes form (now (trace .entry)) place count) r
+        (now (out .exit)) (now (out .entry)) ⌝ }
 {
     let points = count as usize;
     if out.len() < 4 * points {

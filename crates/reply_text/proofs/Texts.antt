@@ -21,7 +21,8 @@ abbrev pub Says : ℕ → List ℕ → List ℕ → Type 0
 Says n r bs = (r ≡ bs) × (length r ≤ n)
 
 -- bytes added to a text that leaves room for them
-pub says-more : (n : ℕ) (r xs bs : List ℕ) → r ≡ added xs bs → length xs + length bs ≤ n → n ≤ textLimit → Says n r (xs ++ bs)
+pub says-more : (n : ℕ) (r xs bs : List ℕ) → r ≡ added xs bs → length xs + length bs ≤ n → n ≤ textLimit →
+    Says n r (xs ++ bs)
 says-more n r xs bs e h l =
     let p : r ≡ xs ++ bs = e ∙ added-fits xs bs (omega arith) in
     (p, rw (p, length-append) h)
@@ -31,19 +32,23 @@ pub says-all : (n : ℕ) (r xs bs : List ℕ) → r ≡ added xs bs → xs ≡ [
 says-all n r xs bs e p h l = says-more n r [] bs (e ∙ rw p) (omega arith) l
 
 -- one byte more of those that are added one by one
-pub added-more : (xs bs : List ℕ) (i : ℕ) → i < length bs → added (added xs (take i bs)) (getD bs i 0 ∷ []) ≡ added xs (take (i + 1) bs)
+pub added-more : (xs bs : List ℕ) (i : ℕ) → i < length bs →
+    added (added xs (take i bs)) (getD bs i 0 ∷ []) ≡ added xs (take (i + 1) bs)
 added-more xs bs i h = added-join xs (take i bs) (getD bs i 0 ∷ []) ∙ rw (add-one, take-suc bs i 0)
 
 -- a setting's value takes 12 bytes at most
-pub value-length : (entry v : ℕ) → v < 4294967296 → length (signedText (rowOf entry .decimals) (rowOf entry .bias) v) ≤ 12
+pub value-length : (entry v : ℕ) → v < 4294967296 →
+    length (signedText (rowOf entry .decimals) (rowOf entry .bias) v) ≤ 12
 value-length entry v h =
-    signed-length 10 (rowOf entry .decimals) (rowOf entry .bias) v (omega (arith, row-decimals entry)) (omega (arith, row-size entry))
+    signed-length 10 (rowOf entry .decimals) (rowOf entry .bias) v (omega (arith, row-decimals entry))
+    (omega (arith, row-size entry))
 
 pub plain-short : (v : ℕ) → v < 4294967296 → length (plain v) ≤ 10
 plain-short v h = plain-length 10 v (omega arith) (omega arith)
 
 -- the identity's parts, one after another
-pub says-identity : (serial : ℕ) (none make numbered r : List ℕ) → none ≡ [] → make ≡ added none (bytes "LOCKIN,M1,s/n") → numbered ≡ added make (padded 5 serial)
+pub says-identity : (serial : ℕ) (none make numbered r : List ℕ) → none ≡ [] →
+    make ≡ added none (bytes "LOCKIN,M1,s/n") → numbered ≡ added make (padded 5 serial)
     → r ≡ added numbered (bytes ",ver1.000") → Says 27 r (identityText serial)
 unfolding identityText
 says-identity serial none make numbered r p a b e =

@@ -14,7 +14,8 @@ use Rattle.text.specs.Text.{plain, padded, signedText, next}
 use Rattle.name.specs.declared.Register.{Register}
 use Rattle.name.specs.declared.Register.the-variants.{Standard, Service, Lia, Errors}
 use Rattle.command.specs.declared.QueryArgument.{QueryArgument}
-use Rattle.command.specs.declared.QueryArgument.the-variants.{Value, Pair, Enable, EnableBit, Status, StatusBit, Identity, Points, Trace}
+use Rattle.command.specs.declared.QueryArgument.the-variants.{Value, Pair, Enable, EnableBit, Status, StatusBit}
+use Rattle.command.specs.declared.QueryArgument.the-variants.{Identity, Points, Trace}
 use Rattle.state.specs.declared.State.{State}
 
 -- "The one in force follows FMOD, and FREQ? replies it."
@@ -31,10 +32,12 @@ pairText s entry =
     let second = behind entry in
     valueText s entry ++ next (rowOf second .decimals) (rowOf second .bias) (valueNow s second)
 
--- the status byte while a line runs: "1 no command running (0 within a *STB? reply)", "4 reply bytes of this line already waiting"
+-- the status byte while a line runs: "1 no command running (0 within a *STB? reply)", "4 reply bytes of this line
+-- already waiting"
 unfoldable pub statusNow : State → Bool → ℕ
 statusNow s waiting =
-    statusByte (s .registers) (s .enables) (record { «at_rest» = atRest (s .moving .storage); idle = false; waiting = waiting })
+    statusByte (s .registers) (s .enables)
+    (record { «at_rest» = atRest (s .moving .storage); idle = false; waiting = waiting })
 
 -- what a status query reads: the status byte or an event register
 unfoldable pub statusOf : State → Bool → Register → ℕ

@@ -4,18 +4,21 @@ ghost use Prim.Native.Nat.{_≤_};
 ghost use lib.ListN.{length};
 ghost use Rattle.text.specs.Text.{plain};
 ghost use Rattle.text.specs.Parts.{shown, added};
-ghost use Rattle.reply_text.specs.ReplyText.{valueNow, valueText, pairText, statusNow, statusOf, identityText, textOf, endOf};
+ghost use Rattle.reply_text.specs.ReplyText.{valueNow, valueText, pairText, statusNow, statusOf, identityText};
+ghost use Rattle.reply_text.specs.ReplyText.{textOf, endOf};
 use command::QueryArgument;
 use name::Register;
 use state::State;
 use status::Poll;
 use text::Text;
 
-// What stands before and after the serial in the reply to *IDN?.
-const MAKE: [u8; 13] = [76, 79, 67, 75, 73, 78, 44, 77, 49, 44, 115, 47, 110];
+// What stands before the serial number in the reply to *IDN?.
+const MAKE: [u8; 13] = *b"LOCKIN,M1,s/n";
 
-const VERSION: [u8; 9] = [44, 118, 101, 114, 49, 46, 48, 48, 48];
+// What stands after it.
+const VERSION: [u8; 9] = *b",ver1.000";
 
+// The serial number is replied in five digits.
 const SERIAL_DIGITS: u8 = 5;
 
 // The value of an entry that a query replies: the frequency in force for FREQ.
@@ -28,6 +31,7 @@ fn value_now(s: State, entry: usize) -> u32
     settings::value_of(s.settings, entry)
 }
 
+// The text of an entry's value, by its row.
 fn value_text(s: State, entry: usize) -> Text
     ensures { λ r. ⌜ (shown r ≡ valueText s entry) × (length (shown r) ≤ 12) ⌝ }
 {
@@ -35,6 +39,7 @@ fn value_text(s: State, entry: usize) -> Text
     text::push_value(Text::empty(), value_now(s, entry), row.bias, row.decimals)
 }
 
+// The texts of an entry's value and of the one after it, divided by a comma.
 fn pair_text(s: State, entry: usize) -> Text
     ensures { λ r. ⌜ (shown r ≡ pairText s entry) × (length (shown r) ≤ 25) ⌝ }
 {
@@ -72,12 +77,14 @@ fn status_of(s: State, waiting: bool, which: Register) -> u8
     }
 }
 
+// A whole number's text.
 fn plain_text(value: u32) -> Text
     ensures { λ r. ⌜ (shown r ≡ plain value) × (length (shown r) ≤ 10) ⌝ }
 {
     text::push_plain(Text::empty(), value)
 }
 
+// The text with these bytes after it, as far as it has room.
 fn push_all(t: Text, bytes: &[u8]) -> Text
     ensures { λ r. ⌜ shown r ≡ added (shown t) (now (bytes .entry)) ⌝ }
 {
@@ -90,6 +97,7 @@ fn push_all(t: Text, bytes: &[u8]) -> Text
     text
 }
 
+// The reply to *IDN?.
 fn identity_text(serial: u32) -> Text
     ensures { λ r. ⌜ (shown r ≡ identityText serial) × (length (shown r) ≤ 27) ⌝ }
 {

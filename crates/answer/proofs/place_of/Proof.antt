@@ -5,15 +5,9 @@ use borrow.Author.Needs.{needs}
 use Rattle.answer.proofs.place_of.Statement.{statement}
 use Rattle.answer.proofs.place_of.Tie as tie
 
-oldest-requires : tie.Need-oldest-requires
-oldest-requires c κs = search needs
-
 add-result : tie.Need-add-result
 unfolding oldestOf
 add-result c = omega (arith, c .oldest .ensures)
 
-returns : tie.Need-returns
-returns c = search needs
-
 pub place-of-spec : {M : Type 1} → statement M
-place-of-spec = tie.close (tie.spec oldest-requires add-result returns)
+place-of-spec = tie.close (tie.spec (λ c κs. search needs) add-result (λ c. search needs))

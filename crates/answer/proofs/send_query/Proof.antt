@@ -5,38 +5,20 @@ use borrow.Author.Needs.{needs}
 use Rattle.answer.proofs.send_query.Statement.{statement}
 use Rattle.answer.proofs.send_query.Tie as tie
 
-enum-known-q : tie.Need-enum-known-q
-enum-known-q c = search needs
-
-send-trace-requires : tie.Need-send-trace-requires
-send-trace-requires c κs = search needs
-
-same-length : tie.Need-same-length
-same-length c = search needs
-
 returns : tie.Need-returns
 unfolding queryReply
-returns c = rw (c .before .before .before .before .before .q .given .1) (c .before .before .send-trace .ensures)
-
-send-text-requires : tie.Need-send-text-requires
-send-text-requires c κs = search needs
-
-same-length-2 : tie.Need-same-length-2
-same-length-2 c = search needs
+returns c =
+    rw (c .before .before .before .before .before .q .given .1) (c .before .before .send-trace .ensures)
 
 returns-2 : tie.Need-returns-2
 returns-2 c =
-    let a = c .before .before .before .before .before .before .before .before .args in
-    rw (text-replied (a .q) (a .s) (a .waiting) (a .one .now) (a .two .now) (c .before .before .before .before .match .keys2)) (c .before .before .send-text .ensures)
+    let other = c .before .before .before .before in
+    let a = other .before .before .before .before .args in
+    rw (text-replied (a .q) (a .s) (a .waiting) (a .one .now) (a .two .now) (other .match .keys2))
+    (c .before .before .send-text .ensures)
 
 pub send-query-spec : {M : Type 1} → statement M
 send-query-spec =
     tie.close
-    (tie.spec
-    enum-known-q
-    send-trace-requires
-    same-length
-    returns
-    send-text-requires
-    same-length-2
-    returns-2)
+    (tie.spec (λ c. search needs) (λ c κs. search needs) (λ c. search needs) returns (λ c κs. search needs)
+    (λ c. search needs) returns-2)

@@ -4,28 +4,17 @@ use borrow.Author.Needs.{needs}
 use Rattle.answer.proofs.send_text.Statement.{statement}
 use Rattle.answer.proofs.send_text.Tie as tie
 
-text-of-requires : tie.Need-text-of-requires
-text-of-requires c κs = search needs
-
-end-of-requires : tie.Need-end-of-requires
-end-of-requires c κs = search needs
-
-push-requires : tie.Need-push-requires
-push-requires c κs = search needs
-
-send-requires : tie.Need-send-requires
-send-requires c κs = search needs
-
-same-length : tie.Need-same-length
-same-length c = search needs
-
 returns : tie.Need-returns
 returns c =
-    let a = c .before .before .before .before .before .before .before .before .args in
-    let e = says-ended (a .q) (a .s) (a .waiting) _ _ _ (c .before .before .before .before .before .before .text-of .ensures) (c .before .before .before .before .before .end-of .ensures) (c .before .before .before .before .push .ensures) in
-    rw (← e) (c .before .before .send .ensures)
+    let pushed = c .before .before .before .before in
+    let end = pushed .before in
+    let text = end .before in
+    let a = text .before .before .args in
+    rw (← says-ended (a .q) (a .s) (a .waiting) _ _ _ (text .text-of .ensures) (end .end-of .ensures)
+    (pushed .push .ensures)) (c .before .before .send .ensures)
 
 pub send-text-spec : {M : Type 1} → statement M
 send-text-spec =
     tie.close
-    (tie.spec text-of-requires end-of-requires push-requires send-requires same-length returns)
+    (tie.spec (λ c κs. search needs) (λ c κs. search needs) (λ c κs. search needs) (λ c κs. search needs)
+    (λ c. search needs) returns)

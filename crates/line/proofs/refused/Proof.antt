@@ -3,11 +3,8 @@ use borrow.Author.Needs.{needs}
 use Rattle.line.proofs.refused.Statement.{statement}
 use Rattle.line.proofs.refused.Tie as tie
 
-marked-requires : tie.Need-marked-requires
-marked-requires c κs = search needs
-
 returns : tie.Need-returns
 returns c = rw (c .marked .ensures)
 
 pub refused-spec : {M : Type 1} → statement M
-refused-spec = tie.close (tie.spec marked-requires returns)
+refused-spec = tie.close (tie.spec (λ c κs. search needs) returns)

@@ -14,78 +14,81 @@ abbrev μ-loop : tie.MeasureT-loop
 μ-loop text one₀ two₀ reply₀ p₀ a₀ one two reply p a = length text + 1 - a
 
 loop-holds : tie.Need-loop-holds Inv-loop μ-loop
-loop-holds c = record { inside = omega arith; same = refl; rest = refl; fits = omega arith; long = refl; long-one = refl; long-two = refl; counted = omega arith }
-
-end-of-requires : tie.Need-end-of-requires Inv-loop μ-loop
-end-of-requires c κs = omega arith
-
-sub-step : tie.Need-sub-step Inv-loop μ-loop
-sub-step c = omega arith
-
-part-step-start : tie.Need-part-step-start Inv-loop μ-loop
-part-step-start c = omega arith
-
-part-step-end : tie.Need-part-step-end Inv-loop μ-loop
-part-step-end c = omega arith
-
-step-requires : tie.Need-step-requires Inv-loop μ-loop
-step-requires c κs = omega arith
+loop-holds c =
+    record {
+      inside = omega arith;
+      same = refl;
+      rest = refl;
+      fits = omega arith;
+      long = refl;
+      long-one = refl;
+      long-two = refl;
+      counted = omega arith;
+    }
 
 same-length : tie.Need-same-length Inv-loop μ-loop
-same-length c = c .before .before .before .before .before .before .before .step .kept .1 .1 .0 ∙ c .before .before .before .before .before .before .before .before .before .before .before .before .before .loop .inv .long-one
+same-length c =
+    let turn = c .before .before .before .before .before .before .before in
+    turn .step .kept .1 .1 .0 ∙ turn .before .before .before .before .before .before .loop .inv .long-one
 
 same-length-2 : tie.Need-same-length-2 Inv-loop μ-loop
-same-length-2 c = c .before .before .before .before .before .before .before .step .kept .1 .1 .1 .0 ∙ c .before .before .before .before .before .before .before .before .before .before .before .before .before .loop .inv .long-two
+same-length-2 c =
+    let turn = c .before .before .before .before .before .before .before in
+    turn .step .kept .1 .1 .1 .0 ∙ turn .before .before .before .before .before .before .loop .inv .long-two
 
 same-length-3 : tie.Need-same-length-3 Inv-loop μ-loop
-same-length-3 c = c .before .before .before .before .before .before .before .step .kept .1 .1 .1 .1 .0 ∙ c .before .before .before .before .before .before .before .before .before .before .before .before .before .loop .inv .long
+same-length-3 c =
+    let turn = c .before .before .before .before .before .before .before in
+    turn .step .kept .1 .1 .1 .1 .0 ∙ turn .before .before .before .before .before .before .loop .inv .long
 
 returns : tie.Need-returns Inv-loop μ-loop
-returns c = stopped (c .before .before .before .before .before .before .before .before .before .before .before .before .before .loop .inv) (c .before .before .before .before .before .before .before .before .before .before .before .before .end-of .result) (c .before .before .before .before .before .before .before .before .before .before .before .before .end-of .ensures .0) (c .before .before .before .before .before .before .before .step .result) (c .before .before .before .before .before .before .before .step .last .1 .1 .0) (c .before .before .before .before .before .before .before .step .last .1 .1 .1 .0) (c .before .before .before .before .before .before .before .step .last .1 .1 .1 .1 .0) (c .before .before .before .before .before .before .before .step .ensures .0) (c .before .before .before .before .before .before .before .step .ensures .1 .0) (c .before .before .before .before .before .before .before .step .ensures .1 .1) (c .if1 .taken)
+returns c =
+    let turn = c .before .before .before .before .before .before .before in
+    let ends = turn .before .before .before .before .before in
+    let step = turn .step in
+    stopped (ends .before .loop .inv) (ends .end-of .result) (ends .end-of .ensures .0) (step .result)
+    (step .last .1 .1 .0) (step .last .1 .1 .1 .0) (step .last .1 .1 .1 .1 .0) (step .ensures .0) (step .ensures .1 .0)
+    (step .ensures .1 .1) (c .if1 .taken)
 
 same-length-4 : tie.Need-same-length-4 Inv-loop μ-loop
-same-length-4 c = c .before .before .before .before .before .before .before .before .step .kept .1 .1 .0 ∙ c .before .before .before .before .before .before .before .before .before .before .before .before .before .before .loop .inv .long-one
+same-length-4 c =
+    let turn = c .before .before .before .before .before .before .before .before in
+    turn .step .kept .1 .1 .0 ∙ turn .before .before .before .before .before .before .loop .inv .long-one
 
 same-length-5 : tie.Need-same-length-5 Inv-loop μ-loop
-same-length-5 c = c .before .before .before .before .before .before .before .before .step .kept .1 .1 .1 .0 ∙ c .before .before .before .before .before .before .before .before .before .before .before .before .before .before .loop .inv .long-two
+same-length-5 c =
+    let turn = c .before .before .before .before .before .before .before .before in
+    turn .step .kept .1 .1 .1 .0 ∙ turn .before .before .before .before .before .before .loop .inv .long-two
 
 same-length-6 : tie.Need-same-length-6 Inv-loop μ-loop
-same-length-6 c = c .before .before .before .before .before .before .before .before .step .kept .1 .1 .1 .1 .0 ∙ c .before .before .before .before .before .before .before .before .before .before .before .before .before .before .loop .inv .long
+same-length-6 c =
+    let turn = c .before .before .before .before .before .before .before .before in
+    turn .step .kept .1 .1 .1 .1 .0 ∙ turn .before .before .before .before .before .before .loop .inv .long
 
 returns-2 : tie.Need-returns-2 Inv-loop μ-loop
-returns-2 c = ended (c .before .before .before .before .before .before .before .before .before .before .before .before .before .before .loop .inv) (c .before .before .before .before .before .before .before .before .before .before .before .before .before .end-of .result) (c .before .before .before .before .before .before .before .before .before .before .before .before .before .end-of .ensures .0) (c .before .before .before .before .before .before .before .before .step .result) (c .before .before .before .before .before .before .before .before .step .last .1 .1 .0) (c .before .before .before .before .before .before .before .before .step .last .1 .1 .1 .0) (c .before .before .before .before .before .before .before .before .step .last .1 .1 .1 .1 .0) (c .before .before .before .before .before .before .before .before .step .ensures .0) (c .before .before .before .before .before .before .before .before .step .ensures .1 .0) (c .before .before .before .before .before .before .before .before .step .ensures .1 .1) (c .before .if1 .left) (c .if2 .taken)
-
-add-a : tie.Need-add-a Inv-loop μ-loop
-add-a c = omega arith
-
-loop-less : tie.Need-loop-less Inv-loop μ-loop
-loop-less c = omega arith
+returns-2 c =
+    let turn = c .before .before .before .before .before .before .before .before in
+    let ends = turn .before .before .before .before .before in
+    let step = turn .step in
+    ended (ends .before .loop .inv) (ends .end-of .result) (ends .end-of .ensures .0) (step .result)
+    (step .last .1 .1 .0) (step .last .1 .1 .1 .0) (step .last .1 .1 .1 .1 .0) (step .ensures .0) (step .ensures .1 .0)
+    (step .ensures .1 .1) (c .before .if1 .left) (c .if2 .taken)
 
 loop-again : tie.Need-loop-again Inv-loop μ-loop
-loop-again c = let l : c .before .before .before .before .before .before .before .before .before .before .before .before .before .end-of .result < length (c .before .before .before .before .before .before .before .before .before .before .before .before .before .before .before .before .before .before .before .args .text .now) = omega arith in
-    again (c .before .before .before .before .before .before .before .before .before .before .before .before .before .before .loop .inv) (c .before .before .before .before .before .before .before .before .before .before .before .before .before .end-of .result) (c .before .before .before .before .before .before .before .before .before .before .before .before .before .end-of .ensures .0) (c .before .before .before .before .before .before .before .before .step .result) (c .before .before .before .before .before .before .before .before .step .last .1 .1 .0) (c .before .before .before .before .before .before .before .before .step .last .1 .1 .1 .0) (c .before .before .before .before .before .before .before .before .step .last .1 .1 .1 .1 .0) (c .before .before .before .before .before .before .before .before .step .ensures .0) (c .before .before .before .before .before .before .before .before .step .ensures .1 .0) (c .before .before .before .before .before .before .before .before .step .ensures .1 .1) (c .before .if1 .left) l
-    (c .before .before .before .before .before .before .before .before .step .kept .1 .1 .1 .1 .0) (c .before .before .before .before .before .before .before .before .step .kept .1 .1 .0) (c .before .before .before .before .before .before .before .before .step .kept .1 .1 .1 .0) (c .before .before .before .before .before .before .before .before .step .ensures .1 .2)
+loop-again c =
+    let turn = c .before .before .before .before .before .before .before .before in
+    let ends = turn .before .before .before .before .before in
+    let step = turn .step in
+    let args = ends .before .before .before .before .before .before .args in
+    let l : ends .end-of .result < length (args .text .now) = omega arith in
+    again (ends .before .loop .inv) (ends .end-of .result) (ends .end-of .ensures .0) (step .result)
+    (step .last .1 .1 .0) (step .last .1 .1 .1 .0) (step .last .1 .1 .1 .1 .0) (step .ensures .0) (step .ensures .1 .0)
+    (step .ensures .1 .1) (c .before .if1 .left) l (step .kept .1 .1 .1 .1 .0) (step .kept .1 .1 .0)
+    (step .kept .1 .1 .1 .0) (step .ensures .1 .2)
 
 pub run-spec : {M : Type 1} → statement M
 run-spec =
     tie.close
-    (tie.spec
-    Inv-loop
-    μ-loop
-    loop-holds
-    end-of-requires
-    sub-step
-    part-step-start
-    part-step-end
-    step-requires
-    same-length
-    same-length-2
-    same-length-3
-    returns
-    same-length-4
-    same-length-5
-    same-length-6
-    returns-2
-    add-a
-    loop-less
-    loop-again)
+    (tie.spec Inv-loop μ-loop loop-holds (λ c κs. omega arith) (λ c. omega arith) (λ c. omega arith)
+    (λ c. omega arith) (λ c κs. omega arith) same-length same-length-2 same-length-3 returns same-length-4
+    same-length-5 same-length-6 returns-2 (λ c. omega arith) (λ c. omega arith) loop-again)

@@ -7,29 +7,10 @@ use borrow.Author.Needs.{needs}
 use Rattle.line.proofs.run_line.Statement.{statement}
 use Rattle.line.proofs.run_line.Tie as tie
 
-clean-requires : tie.Need-clean-requires
-clean-requires c κs = search needs
-
-sub-run : tie.Need-sub-run
-sub-run c = search needs
-
-part-run-start : tie.Need-part-run-start
-part-run-start c = search needs
-
 part-run-end : tie.Need-part-run-end
-part-run-end c = let h : length (c .before .before .clean .result .bytes) ≡ 256 = search needs in omega (arith, c .before .before .clean .ensures .1)
-
-run-requires : tie.Need-run-requires
-run-requires c κs = search needs
-
-same-length : tie.Need-same-length
-same-length c = search needs
-
-same-length-2 : tie.Need-same-length-2
-same-length-2 c = search needs
-
-same-length-3 : tie.Need-same-length-3
-same-length-3 c = search needs
+part-run-end c =
+    let h : length (c .before .before .clean .result .bytes) ≡ 256 = search needs in
+    omega (arith, c .before .before .clean .ensures .1)
 
 returns : tie.Need-returns
 returns c =
@@ -41,13 +22,5 @@ returns c =
 pub run-line-spec : {M : Type 1} → statement M
 run-line-spec =
     tie.close
-    (tie.spec
-    clean-requires
-    sub-run
-    part-run-start
-    part-run-end
-    run-requires
-    same-length
-    same-length-2
-    same-length-3
-    returns)
+    (tie.spec (λ c κs. search needs) (λ c. search needs) (λ c. search needs) part-run-end (λ c κs. search needs)
+    (λ c. search needs) (λ c. search needs) (λ c. search needs) returns)

@@ -1,15 +1,25 @@
--- `lockin::poll` meets its contract: the serial poll that `module` gives, and its number. Assumes nothing.
-use mathlib.Core.Path.{ap}
+-- `lockin::poll` meets its contract: by 11. Assumes nothing.
+use mathlib.Core.Path.{_≡_, sym, ap, _∙_}
 use borrow.Author.Needs.{needs}
 use Rattle.refusal.specs.Meaning.{numberOf}
+use Rattle.lockin.specs.Calls.{pollOf}
+use Rattle.lockin.specs.declared.Polled.{Polled}
 use Rattle.lockin.proofs.poll.Statement.{statement}
 use Rattle.lockin.proofs.poll.Tie as tie
 
-poll-requires : tie.Need-poll-requires
-poll-requires c κs = search needs
+-- the same as document 01's number
+with-number : {r p : Polled} → r ≡ p → (r ≡ p) × (numberOf (r .outcome) ≡ numberOf (p .outcome))
+with-number e = (e, ap (λ p. numberOf (p .outcome)) e)
 
 returns : tie.Need-returns
-returns c = (c .poll .ensures, ap (λ p. numberOf (p .outcome)) (c .poll .ensures))
+unfolding pollOf
+returns c =
+    let allowed = sym (c .before .before .allowed .ensures) ∙ c .before .if1 .taken in
+    with-number (simp (c .status-between .ensures, allowed))
+
+returns-2 : tie.Need-returns-2
+unfolding pollOf
+returns-2 c = with-number (simp (sym (c .before .allowed .ensures) ∙ c .if1 .left))
 
 pub poll-spec : {M : Type 1} → statement M
-poll-spec = tie.close (tie.spec poll-requires returns)
+poll-spec = tie.close (tie.spec (λ c κs. search needs) (λ c κs. search needs) returns returns-2)

@@ -4,15 +4,6 @@ use Rattle.lockin.specs.Parts.{GuardedStep}
 use Rattle.lockin.proofs.step_guarded.Statement.{statement}
 use Rattle.lockin.proofs.step_guarded.Tie as tie
 
-enum-told : tie.Need-enum-told
-enum-told c = search needs
-
-step-of-requires : tie.Need-step-of-requires
-step-of-requires c κs = search needs
-
-enum-known-outcome : tie.Need-enum-known-outcome
-enum-known-outcome c = search needs
-
 returns : tie.Need-returns
 unfolding GuardedStep
 returns c = rw (c .before .enum-told .given .1) (c .step-of .ensures)
@@ -23,4 +14,5 @@ returns-2 c = rw (c .before .outcome .given .1)
 
 pub step-guarded-spec : {M : Type 1} → statement M
 step-guarded-spec =
-    tie.close (tie.spec enum-told step-of-requires enum-known-outcome returns returns-2)
+    tie.close
+    (tie.spec (λ c. search needs) (λ c κs. search needs) (λ c. search needs) returns returns-2)

@@ -12,24 +12,6 @@ use Rattle.lockin.proofs.take_byte.Tie as tie
 long : (start : tie.Start) → length (start .args .m .queue .bytes) ≡ 256
 long start = search needs
 
-guard-requires : tie.Need-guard-requires
-guard-requires c κs = search needs
-
-step-guarded-requires : tie.Need-step-guarded-requires
-step-guarded-requires c κs = search needs
-
-store-requires : tie.Need-store-requires
-store-requires c κs = search needs
-
-line-end-requires : tie.Need-line-end-requires
-line-end-requires c κs = search needs
-
-sub-end-guarded : tie.Need-sub-end-guarded
-sub-end-guarded c = search needs
-
-part-end-guarded-start : tie.Need-part-end-guarded-start
-part-end-guarded-start c = search needs
-
 part-end-guarded-end : tie.Need-part-end-guarded-end
 part-end-guarded-end c =
     let ended = c .before in
@@ -40,18 +22,6 @@ part-end-guarded-end c =
     rw (ended .before .store .ensures)
     (stored-length (step .step-guarded .result .stores) (m .queue .len) _ (m .queue .bytes) ∙ long start) in
     omega (arith, ended .line-end .ensures)
-
-end-guarded-requires : tie.Need-end-guarded-requires
-end-guarded-requires c κs = search needs
-
-same-length : tie.Need-same-length
-same-length c = search needs
-
-same-length-2 : tie.Need-same-length-2
-same-length-2 c = search needs
-
-same-length-3 : tie.Need-same-length-3
-same-length-3 c = search needs
 
 returns : tie.Need-returns
 returns c =
@@ -68,16 +38,6 @@ returns c =
 pub take-byte-spec : {M : Type 1} → statement M
 take-byte-spec =
     tie.close
-    (tie.spec
-    guard-requires
-    step-guarded-requires
-    store-requires
-    line-end-requires
-    sub-end-guarded
-    part-end-guarded-start
-    part-end-guarded-end
-    end-guarded-requires
-    same-length
-    same-length-2
-    same-length-3
-    returns)
+    (tie.spec (λ c κs. search needs) (λ c κs. search needs) (λ c κs. search needs) (λ c κs. search needs)
+    (λ c. search needs) (λ c. search needs) part-end-guarded-end (λ c κs. search needs) (λ c. search needs)
+    (λ c. search needs) (λ c. search needs) returns)

@@ -1,6 +1,6 @@
 -- `lockin::whole_end` meets its contract. Assumes nothing.
 use borrow.Author.Tests.{le-leb, lt-leb}
-use Rattle.lockin.specs.Parts.{wholeEnd}
+use Rattle.lockin.specs.Calls.{wholeEnd}
 use Rattle.lockin.proofs.whole_end.Statement.{statement}
 use Rattle.lockin.proofs.whole_end.Tie as tie
 

@@ -4,15 +4,9 @@ use Rattle.module.specs.Module.{allowedModule}
 use Rattle.module.proofs.allowed.Statement.{statement}
 use Rattle.module.proofs.allowed.Tie as tie
 
-allowed-requires : tie.Need-allowed-requires
-allowed-requires c κs = search needs
-
-keeps-requires : tie.Need-keeps-requires
-keeps-requires c κs = search needs
-
 returns : tie.Need-returns
 unfolding allowedModule
 returns c = rw (c .before .allowed .ensures, c .keeps .ensures)
 
 pub allowed-spec : {M : Type 1} → statement M
-allowed-spec = tie.close (tie.spec allowed-requires keeps-requires returns)
+allowed-spec = tie.close (tie.spec (λ c κs. search needs) (λ c κs. search needs) returns)

@@ -5,12 +5,6 @@ use Rattle.module.specs.Module.{guardOf}
 use Rattle.module.proofs.guard.Statement.{statement}
 use Rattle.module.proofs.guard.Tie as tie
 
-cast-capacity : tie.Need-cast-capacity
-cast-capacity c = search needs
-
-allowed-requires : tie.Need-allowed-requires
-allowed-requires c κs = search needs
-
 returns : tie.Need-returns
 unfolding guardOf
 returns c = rw (sym (c .before .before .allowed .ensures) ∙ c .before .if1 .taken, c .if2 .taken)
@@ -24,4 +18,4 @@ unfolding guardOf
 returns-3 c = rw (sym (c .before .allowed .ensures) ∙ c .if1 .left)
 
 pub guard-spec : {M : Type 1} → statement M
-guard-spec = tie.close (tie.spec cast-capacity allowed-requires returns returns-2 returns-3)
+guard-spec = tie.close (tie.spec (λ c. search needs) (λ c κs. search needs) returns returns-2 returns-3)

@@ -5,12 +5,9 @@ use Rattle.module.specs.Start.{unitKnown}
 use Rattle.module.proofs.unit_known.Statement.{statement}
 use Rattle.module.proofs.unit_known.Tie as tie
 
-cast-result : tie.Need-cast-result
-cast-result c = search needs
-
 returns : tie.Need-returns
 unfolding unitKnown
 returns c = refl
 
 pub unit-known-spec : {M : Type 1} → statement M
-unit-known-spec = tie.close (tie.spec cast-result returns)
+unit-known-spec = tie.close (tie.spec (λ c. search needs) returns)

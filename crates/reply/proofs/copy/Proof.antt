@@ -20,8 +20,11 @@ loop-holds c = (omega arith, refl, refl)
 loop-again : tie.Need-loop-again Inv-loop μ-loop
 loop-again c =
     let v = c .before .before .loop in
-    let a = c .before .before .before .args in
-    (omega arith, rw (v .inv .1) (front-more (a .bytes .now) (a .out .now) (v .i) (omega arith) (omega arith)), simp length-set (v .inv .2))
+    let a = c .before .before .before .args in (
+      omega arith,
+      rw (v .inv .1) (front-more (a .bytes .now) (a .out .now) (v .i) (omega arith) (omega arith)),
+      simp length-set (v .inv .2),
+    )
 
 same-length : tie.Need-same-length Inv-loop μ-loop
 same-length c = c .before .loop .inv .2

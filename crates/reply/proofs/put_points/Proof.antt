@@ -1,4 +1,5 @@
--- `reply::put_points` meets its contract: what is written so far, then the points that are left, is the whole; the measure is how many are left. Assumes nothing.
+-- `reply::put_points` meets its contract: what is written so far, then the points that are left, is the whole; the
+-- measure is how many are left. Assumes nothing.
 use native.Mathlib.Nat.{add-zero, sub-zero}
 use Prim.Native.Nat.{_+_, _-_, _*_, _≤_}
 use mathlib.Core.Path.{_≡_, refl, sym, ap, _∙_}
@@ -14,7 +15,8 @@ use Rattle.reply.proofs.put_points.Tie as tie
 abbrev Inv-loop : tie.InvT-loop
 Inv-loop trace first count form out₀ i₀ out i =
     (i ≤ count)
-    × (take (4 * i) out ++ over (pointBytes form trace (first + i) (count - i)) (drop (4 * i) out) ≡ over (pointBytes form trace first count) out₀)
+    × (take (4 * i) out ++ over (pointBytes form trace (first + i) (count - i)) (drop (4 * i) out)
+    ≡ over (pointBytes form trace first count) out₀)
     × (length out ≡ length out₀)
 
 abbrev μ-loop : tie.MeasureT-loop
@@ -32,7 +34,9 @@ loop-again c =
     let e : x .result ≡ formed (a .form) (wordAt (a .trace .now) (a .first + v .i)) =
     x .ensures ∙ ap (formed (a .form)) (c .before .before .before .before .before .word-at .ensures) in (
       omega arith,
-      rw (p .ensures) (points-more (a .form) (a .trace .now) (v .out) (a .first) (v .i) (a .count) (x .result) e (omega arith) (omega arith) ∙ v .inv .1),
+      rw (p .ensures)
+          (points-more (a .form) (a .trace .now) (v .out) (a .first) (v .i) (a .count) (x .result) e (omega arith)
+          (omega arith) ∙ v .inv .1),
       p .kept .1 .1 .0 ∙ v .inv .2,
     )
 

@@ -19,11 +19,14 @@ slice-write-out-4 c = simp length-set (omega arith)
 
 returns : tie.Need-returns
 unfolding lowFirst littleEndian
-returns c = rw (c .word-bytes .ensures, add-one, add-two, add-three) (sets-eq (littleEndian (c .before .before .args .x)) (c .before .before .args .out .now) (c .before .before .args .at) (omega arith))
+returns c =
+    rw (c .word-bytes .ensures, add-one, add-two, add-three)
+    (sets-eq (littleEndian (c .before .before .args .x)) (c .before .before .args .out .now)
+    (c .before .before .args .at) (omega arith))
 
 pub put-word-spec : {M : Type 1} → statement M
 put-word-spec =
     tie.close
     (tie.spec (λ c κs. search needs) (λ c. search needs) (λ c. search needs) (λ c. search needs) (λ c. search needs)
-    slice-write-out-2 (λ c. search needs) (λ c. search needs) slice-write-out-3 (λ c. search needs) (λ c. search needs)
-    slice-write-out-4 (λ c. search needs) returns)
+    slice-write-out-2 (λ c. search needs) (λ c. search needs) slice-write-out-3 (λ c. search needs)
+    (λ c. search needs) slice-write-out-4 (λ c. search needs) returns)

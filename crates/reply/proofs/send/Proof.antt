@@ -1,4 +1,5 @@
--- `reply::send` meets its contract: a text that fits is copied whole, any other leaves the room as it was. Assumes nothing.
+-- `reply::send` meets its contract: a text that fits is copied whole, any other leaves the room as it was. Assumes
+-- nothing.
 use lib.ListN.{length-take}
 use native.Mathlib.Omega.{arith}
 use Rattle.text.specs.Parts.{shown}
@@ -9,19 +10,23 @@ use Rattle.reply.proofs.send.Tie as tie
 
 returns : tie.Need-returns
 returns c =
-    let t = c .before .before .before .before .before .args .t in
-    not-sent (shown t) (c .before .before .before .before .before .args .out .now) (rw (← c .before .shown-length .ensures) (c .if1 .taken))
+    let a = c .before .before .before .before .before .args in
+    not-sent (shown (a .t)) (a .out .now) (rw (← c .before .shown-length .ensures) (c .if1 .taken))
 
 copy-requires : tie.Need-copy-requires
 copy-requires c κs =
-    let a = c .before .before .before .before .before .before .before .args in
-    (omega (arith, length-take (a .t .len) (a .t .bytes), c .before .before .before .shown-length .ensures), omega arith)
+    let a = c .before .before .before .before .before .before .before .args in (
+      omega (arith, length-take (a .t .len) (a .t .bytes), c .before .before .before .shown-length .ensures),
+      omega arith,
+    )
 
 returns-2 : tie.Need-returns-2
 returns-2 c =
-    let a = c .before .before .before .before .before .before .before .before .before .before .args in
-    let n = c .before .before .before .before .before .before .shown-length in
-    text-sent (a .t .len) (a .t .bytes) (a .out .now) (c .before .before .copy .last .1 .1 .0) (n .result) (n .ensures) (omega arith) (c .before .before .copy .ensures)
+    let copied = c .before .before .copy in
+    let n = c .before .before .before .before .before .before in
+    let a = n .before .before .before .before .args in
+    text-sent (a .t .len) (a .t .bytes) (a .out .now) (copied .last .1 .1 .0) (n .shown-length .result)
+    (n .shown-length .ensures) (omega arith) (copied .ensures)
 
 pub send-spec : {M : Type 1} → statement M
 send-spec =

@@ -1,4 +1,6 @@
--- `reply::send_points` meets its contract: points that fit are written from the slot of their place on, any others leave the room as it was. Assumes nothing.
+-- `reply::send_points` meets its contract: points that fit are written from the slot of their place on, any others
+-- leave
+-- the room as it was. Assumes nothing.
 use native.Mathlib.Omega.{arith}
 use Rattle.reply.specs.Reply.{pointBytes}
 use Rattle.reply.proofs.Over.{pointBytes-length}
@@ -10,7 +12,8 @@ use Rattle.reply.proofs.send_points.Tie as tie
 returns : tie.Need-returns
 returns c =
     let a = c .before .before .before .args in
-    not-sent (pointBytes (a .form) (a .trace .now) (a .place) (a .count)) (a .out .now) (rw pointBytes-length (omega arith))
+    not-sent (pointBytes (a .form) (a .trace .now) (a .place) (a .count)) (a .out .now)
+    (rw pointBytes-length (omega arith))
 
 put-points-requires : tie.Need-put-points-requires
 put-points-requires c κs =
@@ -19,10 +22,11 @@ put-points-requires c κs =
 
 returns-2 : tie.Need-returns-2
 returns-2 c =
-    let a = c .before .before .before .before .before .before .before .before .args in
-    let p = c .before .before .put-points in
-    points-sent (a .form) (a .trace .now) (a .place) (a .count) (c .before .before .before .before .slot-of .result) (a .out .now) (p .last .1 .1 .1 .1 .0)
-    (c .before .before .before .before .slot-of .ensures .0) (omega arith) (p .ensures)
+    let put = c .before .before .put-points in
+    let slot = c .before .before .before .before in
+    let a = slot .before .before .before .before .args in
+    points-sent (a .form) (a .trace .now) (a .place) (a .count) (slot .slot-of .result) (a .out .now)
+    (put .last .1 .1 .1 .1 .0) (slot .slot-of .ensures .0) (omega arith) (put .ensures)
 
 pub send-points-spec : {M : Type 1} → statement M
 send-points-spec =

@@ -8,12 +8,14 @@ use Rattle.reply.proofs.word_at.Tie as tie
 
 returns : tie.Need-returns
 returns c =
-    word-slot (c .before .before .before .before .args .trace .now) (c .before .before .before .before .args .place) (c .before .before .slot-of .result)
+    word-slot (c .before .before .before .before .args .trace .now) (c .before .before .before .before .args .place)
+    (c .before .before .slot-of .result)
     (c .before .before .slot-of .ensures .0) (omega arith)
 
 returns-2 : tie.Need-returns-2
 returns-2 c =
-    sym (word-none (c .before .before .before .args .trace .now) (c .before .before .before .args .place) (c .before .slot-of .result)
+    sym (word-none (c .before .before .before .args .trace .now) (c .before .before .before .args .place)
+    (c .before .slot-of .result)
     (c .before .slot-of .ensures .0) (omega arith))
 
 pub word-at-spec : {M : Type 1} → statement M

@@ -5,14 +5,9 @@ use borrow.Author.Needs.{needs}
 use Rattle.reply_text.proofs.plain_text.Statement.{statement}
 use Rattle.reply_text.proofs.plain_text.Tie as tie
 
-empty-requires : tie.Need-empty-requires
-empty-requires c κs = search needs
-
-push-plain-requires : tie.Need-push-plain-requires
-push-plain-requires c κs = search needs
-
 returns : tie.Need-returns
-returns c = says-all 10 _ _ _ (c .push-plain .ensures) (c .before .empty .ensures) (plain-short _ (search needs)) (omega arith)
+returns c =
+    says-all 10 _ _ _ (c .push-plain .ensures) (c .before .empty .ensures) (plain-short _ (search needs)) (omega arith)
 
 pub plain-text-spec : {M : Type 1} → statement M
-plain-text-spec = tie.close (tie.spec empty-requires push-plain-requires returns)
+plain-text-spec = tie.close (tie.spec (λ c κs. search needs) (λ c κs. search needs) returns)

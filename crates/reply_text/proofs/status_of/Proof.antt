@@ -4,30 +4,6 @@ use borrow.Author.Needs.{needs}
 use Rattle.reply_text.proofs.status_of.Statement.{statement}
 use Rattle.reply_text.proofs.status_of.Tie as tie
 
-enum-told : tie.Need-enum-told
-enum-told c = search needs
-
-register-of-requires : tie.Need-register-of-requires
-register-of-requires c κs = search needs
-
-enum-told-2 : tie.Need-enum-told-2
-enum-told-2 c = search needs
-
-status-now-requires : tie.Need-status-now-requires
-status-now-requires c κs = search needs
-
-enum-told-3 : tie.Need-enum-told-3
-enum-told-3 c = search needs
-
-register-of-requires-2 : tie.Need-register-of-requires-2
-register-of-requires-2 c κs = search needs
-
-enum-told-4 : tie.Need-enum-told-4
-enum-told-4 c = search needs
-
-register-of-requires-3 : tie.Need-register-of-requires-3
-register-of-requires-3 c κs = search needs
-
 returns : tie.Need-returns
 unfolding statusOf
 returns c = rw (c .register-of .ensures, c .before .enum-told .given .1)
@@ -47,16 +23,6 @@ returns-4 c = rw (c .register-of3 .ensures, c .before .enum-told4 .given .1)
 pub status-of-spec : {M : Type 1} → statement M
 status-of-spec =
     tie.close
-    (tie.spec
-    enum-told
-    register-of-requires
-    enum-told-2
-    status-now-requires
-    enum-told-3
-    register-of-requires-2
-    enum-told-4
-    register-of-requires-3
-    returns
-    returns-2
-    returns-3
+    (tie.spec (λ c. search needs) (λ c κs. search needs) (λ c. search needs) (λ c κs. search needs)
+    (λ c. search needs) (λ c κs. search needs) (λ c. search needs) (λ c κs. search needs) returns returns-2 returns-3
     returns-4)
