@@ -1,7 +1,8 @@
-/* Answers operations `check CAP HEX` of docs/ops-protocol.md, one a line on standard input, through the check's C entry.
+/* Answers operations `check CAP HEX` of docs/ops-protocol.md, one a line on standard input, through the check's C
+ * entry.
  *
- * For each it writes the number, then the line, the place and the refusal as include/glazeotter.h reads them off. Each script is
- * handed over twice, in memory of exactly its length, and must keep its bytes; one of no bytes also as NULL.
+ * For each it writes the number, then the line, the place and the refusal as include/glazeotter.h reads them off. Each
+ * script is handed over twice, in memory of exactly its length, and must keep its bytes; one of no bytes also as NULL.
  */
 #include "glazeotter.h"
 
