@@ -9,7 +9,7 @@ use terminal::write_bytes;
 // How many hex digits a word has.
 const WORD_DIGITS: usize = 8;
 
-// The value of a field that is neither a setting nor the queue's bytes, as a number: a phase by its number.
+// The value of a field that is neither a setting nor `queue`, as a number: a phase by its number.
 fn number_at(m: Module, field: usize) -> u32 {
     let s = m.state;
     let storage = s.moving.storage;
@@ -35,6 +35,14 @@ fn number_at(m: Module, field: usize) -> u32 {
     }
 }
 
+// The value of a field but for the queue's bytes, as a number: a setting with the bias of its entry.
+fn value_at(m: Module, field: usize) -> u32 {
+    if let Kind::Setting(entry) = fields::kind_of(field) {
+        return settings::value_of(m.state.settings, entry);
+    }
+    number_at(m, field)
+}
+
 // Writes the bytes that wait, of more than 256 the first ones.
 fn write_queue(out: &mut [u8], at: usize, q: Queue) -> usize {
     let bytes = q.bytes;
@@ -43,17 +51,15 @@ fn write_queue(out: &mut [u8], at: usize, q: Queue) -> usize {
 
 // Writes a field's value.
 fn write_value(out: &mut [u8], at: usize, m: Module, field: usize) -> usize {
+    let value = value_at(m, field);
     match fields::kind_of(field) {
-        Kind::Number(_) | Kind::Flag => {
-            terminal::write_number(out, at, number_at(m, field) as u64)
-        }
+        Kind::Number(_) | Kind::Flag => terminal::write_number(out, at, value as u64),
         Kind::Setting(entry) => {
             let row = settings::row_of(entry);
-            let value = settings::value_of(m.state.settings, entry);
             terminal::write_signed(out, at, value, row.bias)
         }
-        Kind::Word => terminal::write_hex(out, at, number_at(m, field) as u64, WORD_DIGITS),
-        Kind::Phase => fields::write_phase(out, at, number_at(m, field)),
+        Kind::Word => terminal::write_hex(out, at, value as u64, WORD_DIGITS),
+        Kind::Phase => fields::write_phase(out, at, value),
         Kind::Queue => write_queue(out, at, m.queue),
     }
 }
