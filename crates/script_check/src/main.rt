@@ -1,4 +1,6 @@
 // The program script_check: the script check of standard input, by document 01.
+
+// Reads the input, and writes the verdict on it.
 fn main() {
-    verdict_text::write(script_input::read_output());
+    check_input::write_line(check_input::read_output());
 }

@@ -1,24 +1,32 @@
-// A course of a script, run on a module up to the line that the check named: without events, or before each line with the highest frequency that is
-// taken, where one is measured, and then a trigger. These are the two courses that the check follows.
+// A course of a script, run on a module up to the line that the check named: without events, or before each line with
+// the highest frequency that is taken, where one is measured, and then a trigger. These are the two courses that the
+// check follows.
 use crate::operation;
-use event::Event;
 use lockin::Called;
+use lockin::Event;
 use lockin::Module;
+use lockin::Refusal;
 use lockin::Told;
-use refusal::Refusal;
 
+// The module's serial number.
 const SERIAL: u32 = 0;
 
+// The module's port.
 const PORT: u32 = state::GPIB as u32;
 
-// Whether no events happen, whether each operation is written, and the line and the place that the check named.
+// Which course is run, and how.
 pub struct Course {
-    pub quiet: bool,
-    pub shown: bool,
+    // Whether events happen before each line.
+    pub has_events: bool,
+    // Whether each operation is written to standard output.
+    pub prints: bool,
+    // The line that the check named, from 1.
     pub line: usize,
+    // The place that the check named.
     pub place: u32,
 }
 
+// The event of the highest frequency that is taken, where one is measured.
 fn measure(course: Course, m: Module, one: &mut [u32], two: &mut [u32]) -> Module {
     let state = m.state;
     let settings = state.settings;
@@ -26,30 +34,32 @@ fn measure(course: Course, m: Module, one: &mut [u32], two: &mut [u32]) -> Modul
         return m;
     }
     let frequency = two_courses::highest(settings::value_of(settings, settings::HARM));
-    if course.shown {
-        operation::show_measured(frequency);
+    if course.prints {
+        operation::print_measured(frequency);
     }
     let taken = lockin::take_event(m, Event::Measured(frequency), one, two);
     taken.after
 }
 
+// The trigger event.
 fn trigger(course: Course, m: Module, one: &mut [u32], two: &mut [u32]) -> Module {
-    if course.shown {
-        operation::show_trigger();
+    if course.prints {
+        operation::print_trigger();
     }
     let taken = lockin::take_event(m, Event::Trigger, one, two);
     taken.after
 }
 
-// What happens before a line.
-fn gap(course: Course, m: Module, one: &mut [u32], two: &mut [u32]) -> Module {
-    if course.quiet {
-        return m;
+// The events before a line.
+fn events_before_line(course: Course, m: Module, one: &mut [u32], two: &mut [u32]) -> Module {
+    if course.has_events {
+        return trigger(course, measure(course, m, one, two), one, two);
     }
-    trigger(course, measure(course, m, one, two), one, two)
+    m
 }
 
-fn take(
+// The events before a line, and the line.
+fn run_line(
     course: Course,
     m: Module,
     text: &[u8],
@@ -57,16 +67,22 @@ fn take(
     two: &mut [u32],
     reply: &mut [u8],
 ) -> Called {
-    let called = lockin::take_line(gap(course, m, one, two), text, one, two, reply);
-    if course.shown {
+    let called = lockin::take_line(
+        events_before_line(course, m, one, two),
+        text,
+        one,
+        two,
+        reply,
+    );
+    if course.prints {
         let told = called.told;
-        operation::show_line(text, told.length);
+        operation::print_line(text, told.length);
     }
     called
 }
 
 // Whether a line answers refusal 3 at a place.
-fn refuses(told: Told, place: u32) -> bool {
+fn refuses_at(told: Told, place: u32) -> bool {
     let meaning = refusal::meaning_of(Refusal::NotAllowed);
     let numbers = lockin::numbers_of(told);
     if numbers.refusal == meaning.number {
@@ -75,8 +91,8 @@ fn refuses(told: Told, place: u32) -> bool {
     false
 }
 
-// Runs the course up to the named line, and gives whether that line answers refusal 3 at the named place. What the traces hold at the start is never
-// read: a trace read sends only points that were stored since.
+// Runs the course up to the named line, and gives whether that line answers refusal 3 at the named place. What the
+// traces hold at the start is never read: a trace read sends only points that were stored since.
 pub fn run(
     course: Course,
     script: &[u8],
@@ -87,16 +103,16 @@ pub fn run(
     let started = lockin::start(SERIAL, PORT, one, two);
     let mut latest = started.after;
     let mut line = 1;
-    let mut a = 0;
-    while a < script.len() {
-        let e = divide::end_of(script, b'\n', a);
-        let called = take(course, latest, &script[a..e], one, two, reply);
+    let mut start = 0;
+    while start < script.len() {
+        let end = divide::end_of(script, b'\n', start);
+        let called = run_line(course, latest, &script[start..end], one, two, reply);
         if line == course.line {
-            return refuses(called.told, course.place);
+            return refuses_at(called.told, course.place);
         }
         latest = called.after;
         line += 1;
-        a = e + 1;
+        start = end + 1;
     }
     false
 }

@@ -1,24 +1,22 @@
-// Bytes and words as lower-case hex.
+// Bytes and numbers in lower-case hex.
 ghost use Prim.Native.Nat.{_≤_};
 use crate::field::HEX;
 use crate::field::Number;
-use crate::field::number_of;
-use crate::output::put;
-use crate::output::put_all;
+use crate::field::decode_number;
+use crate::output::write_byte;
+use crate::output::write_bytes;
 
-// How many digits a byte has.
+// How many hex digits a byte has.
 const BYTE_DIGITS: usize = 2;
 
-const LAST_BYTE: u32 = 255;
+// The largest byte.
+const LAST_BYTE: u32 = u8::MAX as u32;
 
-// How many bytes a text in hex stands for.
-pub enum Decoded {
-    Bytes(usize),
-    Wrong,
-}
+// The largest number of bytes that is read.
+const MOST_BYTES: usize = u32::MAX as usize;
 
-// The value of a digit, 16 of any other byte.
-pub fn digit_of(b: u8) -> u8
+// The value of a hex digit, 16 where a byte is no digit.
+pub fn digit_value(b: u8) -> u8
     ensures { λ r. ⌜ r ≤ 16 ⌝ }
 {
     match b {
@@ -28,53 +26,57 @@ pub fn digit_of(b: u8) -> u8
     }
 }
 
-// Puts the bytes of pairs of digits at the start of a buffer.
-fn decode_pairs(text: &[u8], bytes: &mut [u8]) -> Decoded {
+// Stores the bytes that pairs of digits stand for at the start of a buffer, and gives how many they are.
+fn decode_pairs(text: &[u8], bytes: &mut [u8]) -> Number {
     let n = text.len() / 2;
     if bytes.len() < n {
-        return Decoded::Wrong;
+        return Number::Invalid;
+    }
+    if MOST_BYTES < n {
+        return Number::Invalid;
     }
     let mut i = 0;
     while i < n {
-        let Number::Value(b) = number_of(&text[2 * i..2 * i + 2], HEX, LAST_BYTE) else {
-            return Decoded::Wrong;
+        let Number::Value(b) = decode_number(&text[2 * i..2 * i + 2], HEX, LAST_BYTE) else {
+            return Number::Invalid;
         };
         bytes[i] = (b % 256) as u8;
         i += 1;
     }
-    Decoded::Bytes(n)
+    Number::Value(n as u32)
 }
 
-// Puts the bytes of a text in hex, `-` where there are none, at the start of a buffer.
-pub fn decode(text: &[u8], bytes: &mut [u8]) -> Decoded {
+// Stores the bytes that a text in hex stands for, `-` where there are none, at the start of a buffer, and gives how
+// many they are.
+pub fn decode_bytes(text: &[u8], bytes: &mut [u8]) -> Number {
     if check::same(text, b"-") {
-        return Decoded::Bytes(0);
+        return Number::Value(0);
     }
     if text.len() == 0 {
-        return Decoded::Wrong;
+        return Number::Invalid;
     }
     if text.len() % 2 == 1 {
-        return Decoded::Wrong;
+        return Number::Invalid;
     }
     decode_pairs(text, bytes)
 }
 
-// A number in hex with so many digits at least.
-pub fn put_hex(out: &mut [u8], at: usize, value: u64, least: usize) -> usize {
+// Writes a number in hex with at least `least` digits.
+pub fn write_hex(out: &mut [u8], at: usize, value: u64, least: usize) -> usize {
     let mut digits = [0u8; 16];
     let n = io::hex(value, least, &mut digits);
-    put_all(out, at, &digits[0..n])
+    write_bytes(out, at, &digits[0..n])
 }
 
-// Bytes, `-` where there are none.
-pub fn put_bytes(out: &mut [u8], at: usize, bytes: &[u8]) -> usize {
+// Writes bytes in hex, `-` where there are none.
+pub fn write_hex_bytes(out: &mut [u8], at: usize, bytes: &[u8]) -> usize {
     if bytes.len() == 0 {
-        return put(out, at, b'-');
+        return write_byte(out, at, b'-');
     }
     let mut end = at;
     let mut i = 0;
     while i < bytes.len() {
-        end = put_hex(out, end, bytes[i] as u64, BYTE_DIGITS);
+        end = write_hex(out, end, bytes[i] as u64, BYTE_DIGITS);
         i += 1;
     }
     end

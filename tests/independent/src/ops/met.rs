@@ -52,7 +52,7 @@ mod tests {
     fn refusals_are_counted_by_call_and_field() {
         let operations =
             b"tick\nalter harm 0\ntick\nline 41 1\n\nalter t1 0\npoll\nalter harm 1\ntick\nalter port 9\nraise 0 0\n";
-        let answers = b"A 0\nK\nA 11\nA 11 0 0 aa\n?\nP 11 0\nK\nA 0\nK\nA 11\n";
+        let answers = b"A 0\nK\nA 11\nA 11 0 0 aa\n?\nS 11 0\nK\nA 0\nK\nA 11\n";
         let met = met(&lines(operations), &lines(answers));
         let found: Vec<String> = met.iter().map(|((call, field), count)| format!("{call} {field} {count}")).collect();
         assert_eq!(

@@ -79,8 +79,8 @@ impl Session {
     fn poll(&self) -> String {
         let state = self.state();
         match state.is_allowed() {
-            true => format!("P 0 {}", state.registers.status_between_lines(state.phase)),
-            false => format!("P {} 0", Refusal::Module.number()),
+            true => format!("S 0 {}", state.registers.status_between_lines(state.phase)),
+            false => format!("S {} 0", Refusal::Module.number()),
         }
     }
 

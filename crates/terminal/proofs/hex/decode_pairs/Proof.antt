@@ -1,4 +1,5 @@
--- `terminal::hex::decode_pairs` is safe and ends: the buffer keeps its length, the measure is the number of pairs that are left. Assumes nothing.
+-- `terminal::hex::decode_pairs` is safe and ends: the buffer keeps its length, the measure is the number of pairs that
+-- are left. Assumes nothing.
 use Prim.Native.Nat.{_≤_, _-_}
 use mathlib.Core.Path.{_≡_}
 use lib.ListN.{length}
@@ -16,7 +17,7 @@ pub decode-pairs-spec : {M : Type 1} → statement M
 decode-pairs-spec =
     tie.close
     (tie.spec Inv-loop μ-loop (λ c. search needs) (λ c. search needs) (λ c. search needs) (λ c. search needs)
-    (λ c. search needs) (λ c. search needs) (λ c. search needs) (λ c. search needs) (λ c κs. search needs)
     (λ c. search needs) (λ c. search needs) (λ c. search needs) (λ c. search needs) (λ c. search needs)
+    (λ c κs. search needs) (λ c. search needs) (λ c. search needs) (λ c. search needs) (λ c. search needs)
     (λ c. search needs) (λ c. search needs) (λ c. search needs) (λ c. search needs) (λ c. search needs)
-    (λ c. search needs))
+    (λ c. search needs) (λ c. search needs) (λ c. search needs))

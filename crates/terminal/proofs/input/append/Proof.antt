@@ -1,4 +1,5 @@
--- `terminal::input::append` is safe and ends: the buffer keeps its length, the index stays within the part. Assumes nothing.
+-- `terminal::input::append` is safe and ends: the buffer keeps its length, the index stays within the part. Assumes
+-- nothing.
 use Prim.Native.Nat.{_≤_, _-_}
 use mathlib.Core.Path.{_≡_}
 use lib.ListN.{length}

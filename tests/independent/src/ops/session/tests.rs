@@ -346,7 +346,7 @@ fn an_altered_state_is_tested_by_each_call() {
         ("trigger", "A 11"),
         ("measured 1", "A 11"),
         ("raise 255 255", "A 11"),
-        ("poll", "P 11 0"),
+        ("poll", "S 11 0"),
     ] {
         assert_eq!(desk.does(call), answer, "{call}");
     }
@@ -359,7 +359,7 @@ fn an_altered_state_is_tested_by_each_call() {
 fn traces_of_another_capacity_are_refused_by_9_after_11() {
     let mut desk = Desk::gpib();
     for (capacity, tick, poll) in
-        [(7, "A 9", "P 0 3"), (0, "A 11", "P 11 0"), (16_384, "A 11", "P 11 0"), (8, "A 0", "P 0 3")]
+        [(7, "A 9", "S 0 3"), (0, "A 11", "S 11 0"), (16_384, "A 11", "S 11 0"), (8, "A 0", "S 0 3")]
     {
         desk.does(&format!("alter cap {capacity}"));
         assert_eq!((desk.does("tick").as_str(), desk.does("poll").as_str()), (tick, poll), "{capacity}");

@@ -1,0 +1,56 @@
+-- The input byte by byte: what the programs hold in memory after each byte. That this is enough to say what document 01
+-- says of the whole input is stated in Whole.antt.
+use Prim.Native.Nat.{ℕ, _+_, _-_, _*_}
+use mathlib.Core.Bool.{true, false, cond}
+use mathlib.Core.List.{List, [], _∷_}
+use lib.Dec.{ltb, eqb}
+use lib.ListN.{length, set}
+use Rattle.number.specs.Number.{isDigit}
+use Rattle.settings.specs.Limits.{capacityMost}
+use Rattle.check_input.specs.declared.bytes.Input.{Input}
+
+-- the byte that ends line one
+abbrev pub lineFeed : ℕ
+lineFeed = 10
+
+-- what has been read, and the bytes that were lent for the script
+pub record Memory : Type 0 where
+  pub input : Input
+  pub script : List ℕ
+
+-- the two in one
+abbrev pub memory : Input → List ℕ → Memory
+memory input script = record { input = input; script = script }
+
+-- nothing has been read
+abbrev pub startInput : Input
+startInput = record { ended = false; capacity = 0; len = 0 }
+
+-- "the capacity, digits only": a number past every capacity stays, and what is no digit makes one
+unfoldable pub capacityAfter : ℕ → ℕ → ℕ
+capacityAfter b capacity =
+    cond (ltb capacityMost capacity) capacity (cond (isDigit b) (capacity * 10 + (b - 48)) (capacityMost + 1))
+
+-- after a byte of line one, or the LF that ends it
+unfoldable pub lineOneAfter : ℕ → Input → Input
+lineOneAfter b i =
+    cond (eqb b lineFeed)
+    (record { ended = true; capacity = i .capacity; len = i .len })
+    (record { ended = false; capacity = capacityAfter b (i .capacity); len = i .len })
+
+-- after a byte of the script, which is stored as far as there is room
+unfoldable pub scriptAfter : ℕ → Memory → Memory
+scriptAfter b h =
+    let i = h .input in
+    cond (ltb (i .len) (length (h .script)))
+    (memory (record { ended = i .ended; capacity = i .capacity; len = i .len + 1 }) (set (h .script) (i .len) b))
+    h
+
+-- after a byte of the input
+unfoldable pub afterByte : ℕ → Memory → Memory
+afterByte b h = cond (h .input .ended) (scriptAfter b h) (memory (lineOneAfter b (h .input)) (h .script))
+
+-- after some bytes of the input
+unfoldable pub afterBytes : List ℕ → Memory → Memory
+afterBytes [] h = h
+afterBytes (b ∷ bs) h = afterBytes bs (afterByte b h)

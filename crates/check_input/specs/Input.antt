@@ -1,0 +1,39 @@
+-- What the check program says of its input: document 01, "The script check".
+use Prim.Native.Nat.{ℕ}
+use mathlib.Core.Bool.{cond, _&&_}
+use mathlib.Core.List.{List}
+use lib.Dec.{ltb}
+use lib.ListN.{length}
+use Rattle.divide.specs.Divide.{before, after}
+use Rattle.number.specs.Number.{allDigits}
+use Rattle.number.specs.Value.{decimal}
+use Rattle.refusal.specs.declared.Refusal.the-variants.{LongScriptLine}
+use Rattle.check_input.specs.Bytes.{lineFeed}
+use Rattle.settings.specs.Limits.{capacityFits}
+use Rattle.two_courses.specs.Model.{modelOf}
+use Rattle.script.specs.Check.{checkOf}
+use Rattle.verdict.specs.declared.Verdict.{Verdict}
+use Rattle.verdict.specs.declared.Verdict.the-variants.{No}
+use Rattle.check_input.specs.VerdictLine.{verdictText}
+
+-- "the capacity, digits only, on line one (anything else counts as 0)"
+unfoldable pub capacityOf : List ℕ → ℕ
+capacityOf line = cond (allDigits line) (decimal line) 0
+
+-- "at most 60,000 script bytes"
+abbrev pub scriptLimit : ℕ
+scriptLimit = 60000
+
+-- "more is `no 0 0 8`, unless 9 applies"
+unfoldable pub limitedCheck : ℕ → List ℕ → Verdict
+limitedCheck capacity script =
+    cond (ltb scriptLimit (length script) && capacityFits capacity) (No 0 0 LongScriptLine)
+    (checkOf (modelOf capacity) script)
+
+-- "The check program reads the capacity .. on line one .., then .. script bytes"
+unfoldable pub inputVerdict : List ℕ → Verdict
+inputVerdict input = limitedCheck (capacityOf (before lineFeed input)) (after lineFeed input)
+
+-- the check program, from the bytes of its whole input to the bytes of its whole output
+abbrev pub checkOutput : List ℕ → List ℕ
+checkOutput input = verdictText (inputVerdict input)

@@ -1,0 +1,30 @@
+-- The line that the programs write for a verdict of the script check, byte by byte: document 01, "The script check".
+use Prim.Native.Nat.{ℕ}
+use mathlib.Core.List.{List, [], _∷_, _++_}
+use lib.ListN.{take}
+use Rattle.divide.specs.Ascii.{bytes}
+use Rattle.text.specs.Text.{plain}
+use Rattle.verdict.specs.Said.{Said, ok, no, said}
+use Rattle.verdict.specs.declared.Verdict.{Verdict}
+use Rattle.check_input.specs.declared.verdict_line.VerdictLine.{VerdictLine}
+
+-- LF, which ends the line
+abbrev pub lineEnd : List ℕ
+lineEnd = 10 ∷ []
+
+-- a space and a whole number, its digits and no zero in front
+abbrev pub spaced : ℕ → List ℕ
+spaced n = 32 ∷ plain n
+
+-- one line: `ok`, or `no` with the line, the place and the refusal's number
+unfoldable pub saidText : Said → List ℕ
+saidText ok = bytes "ok" ++ lineEnd
+saidText (no line place refusal) = bytes "no" ++ (spaced line ++ (spaced place ++ (spaced refusal ++ lineEnd)))
+
+-- the same of a verdict, by its values in document 01's numbers
+abbrev pub verdictText : Verdict → List ℕ
+verdictText v = saidText (said v)
+
+-- the bytes of the code's line, up to its length
+abbrev pub lineBytes : VerdictLine → List ℕ
+lineBytes l = take (l .len) (l .bytes)

@@ -1,2 +1,0 @@
--- Laws on the input, byte by byte.
-pub mod Bytes

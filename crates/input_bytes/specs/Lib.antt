@@ -1,2 +1,0 @@
--- What is kept of the input of the programs over the script check.
-pub mod Taken

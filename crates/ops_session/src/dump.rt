@@ -1,0 +1,120 @@
+// The operation `dump`: the state of a module and its traces as text, `name=value` with spaces between them.
+use crate::alter::phase_number;
+use lockin::Module;
+use ops_protocol::fields;
+use ops_protocol::fields::Kind;
+use queue::Queue;
+use terminal::write_bytes;
+
+// How many hex digits a word has.
+const WORD_DIGITS: usize = 8;
+
+// The value of a field that is neither a setting nor `queue`, as a number: a phase by its number.
+fn number_at(m: Module, field: usize) -> u32 {
+    let s = m.state;
+    let storage = s.moving.storage;
+    let phase = storage.phase;
+    match field {
+        fields::SERIAL => s.unit.serial,
+        fields::PORT => s.unit.port as u32,
+        fields::CAP => s.unit.capacity,
+        fields::EXT => s.moving.external,
+        fields::STORAGE => phase_number(phase),
+        fields::HELD => storage.held,
+        fields::NEXT => storage.next,
+        fields::PAIR_ONE => s.latest.one,
+        fields::PAIR_TWO => s.latest.two,
+        fields::ESR => s.registers.standard as u32,
+        fields::LIA => s.registers.lia as u32,
+        fields::ERR => s.registers.errors as u32,
+        fields::ESE => s.enables.standard as u32,
+        fields::SRE => s.enables.service as u32,
+        fields::LIAE => s.enables.lia as u32,
+        fields::ERRE => s.enables.errors as u32,
+        _ => m.queue.dropping as u32,
+    }
+}
+
+// The value of a field but for the queue's bytes, as a number: a setting with the bias of its entry.
+fn value_at(m: Module, field: usize) -> u32 {
+    if let Kind::Setting(entry) = fields::kind_of(field) {
+        return settings::value_of(m.state.settings, entry);
+    }
+    number_at(m, field)
+}
+
+// Writes the bytes that wait, of more than 256 the first ones.
+fn write_queue(out: &mut [u8], at: usize, q: Queue) -> usize {
+    let bytes = q.bytes;
+    terminal::write_hex_bytes(out, at, terminal::first_bytes(&bytes, q.len))
+}
+
+// Writes a field's value.
+fn write_value(out: &mut [u8], at: usize, m: Module, field: usize) -> usize {
+    let value = value_at(m, field);
+    match fields::kind_of(field) {
+        Kind::Number(_) | Kind::Flag => terminal::write_number(out, at, value as u64),
+        Kind::Setting(entry) => {
+            let row = settings::row_of(entry);
+            terminal::write_signed(out, at, value, row.bias)
+        }
+        Kind::Word => terminal::write_hex(out, at, value as u64, WORD_DIGITS),
+        Kind::Phase => fields::write_phase(out, at, value),
+        Kind::Queue => write_queue(out, at, m.queue),
+    }
+}
+
+// Writes every field behind its name.
+fn write_fields(out: &mut [u8], at: usize, m: Module) -> usize {
+    let names = fields::NAMES;
+    let mut end = at;
+    let mut start = 0;
+    let mut field = 0;
+    while field < fields::COUNT {
+        let rest = &names[start..];
+        let n = divide::span_of(rest, b' ');
+        let name = fields::write_name(out, end, &rest[0..n], field);
+        end = write_value(out, name, m, field);
+        if n == rest.len() {
+            return end;
+        }
+        start += n + 1;
+        field += 1;
+    }
+    end
+}
+
+// Writes a text and a word in hex behind it.
+fn write_word_after(out: &mut [u8], at: usize, text: &[u8], word: u32) -> usize {
+    let end = write_bytes(out, at, text);
+    terminal::write_hex(out, end, word as u64, WORD_DIGITS)
+}
+
+// Writes the words of a trace behind the first, each after a comma.
+fn write_words(out: &mut [u8], at: usize, trace: &[u32]) -> usize {
+    let mut end = at;
+    let mut i = 1;
+    while i < trace.len() {
+        end = write_word_after(out, end, b",", trace[i]);
+        i += 1;
+    }
+    end
+}
+
+// Writes a trace's words behind a text.
+fn write_trace(out: &mut [u8], at: usize, text: &[u8], trace: &[u32]) -> usize {
+    if trace.len() == 0 {
+        return write_bytes(out, at, text);
+    }
+    let end = write_word_after(out, at, text, trace[0]);
+    write_words(out, end, trace)
+}
+
+// Answers `dump`.
+pub fn report_state(m: Module, one: &[u32], two: &[u32]) {
+    let mut out = io::buffer();
+    let fields = write_fields(&mut out, 0, m);
+    let first = write_trace(&mut out, fields, b" t1=", one);
+    let end = write_trace(&mut out, first, b" t2=", two);
+    terminal::end_line(&mut out, end);
+}

@@ -1,3 +1,0 @@
--- What the programs over the script check say of their input.
-pub mod Input
-pub mod Whole

@@ -1,2 +1,0 @@
--- Laws on a number's digits.
-pub mod Decimal

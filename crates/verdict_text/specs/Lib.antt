@@ -1,2 +1,0 @@
--- The line that tells a verdict.
-pub mod Text
