@@ -18,7 +18,6 @@ use Rattle.settings.specs.Table.{table, rowOf, entries, oflt, send}
 use Rattle.settings.specs.Setting.{stepOf}
 use Rattle.settings.specs.Allowed.{every, keeps}
 use Rattle.settings.proofs.Every.{every-at}
-use Rattle.demands.specs.Written.{written}
 use Rattle.demands.proofs.Bytes.{all, inCommand}
 
 -- ---- entries with channels
@@ -47,14 +46,17 @@ pub record Alike (e f : ℕ) : Type 0 where
   second : oflt < f
   rows : cells e ≡ cells f
 
-module _ {e f : ℕ} (a : Alike e f) (v : ℕ) where
-  pub alike-written : written e v ≡ written f v
-  alike-written =
+module _ {e f : ℕ} (a : Alike e f) where
+  -- their texts have the same decimals and the same bias
+  pub alike-text : (rowOf e .decimals ≡ rowOf f .decimals) × (rowOf e .bias ≡ rowOf f .bias)
+  alike-text =
       let r = a .rows in
       let d : rowOf e .decimals ≡ rowOf f .decimals = cc in
       let b : rowOf e .bias ≡ rowOf f .bias = cc in
-      rw (d, b)
+      (d, b)
 
+module _ {e f : ℕ} (a : Alike e f) (v : ℕ) where
+  -- a state may keep the same values at both
   pub alike-keeps : keeps e v ≡ keeps f v
   unfolding keeps stepOf
   alike-keeps =

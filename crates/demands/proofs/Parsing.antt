@@ -38,7 +38,7 @@ use Rattle.demands.proofs.Again.{whole, taken-whole, read-as, kept-size
 use Rattle.demands.proofs.Bytes.{all, inNumber, inArguments, inCommand, all-append, in-arguments, in-command}
 use Rattle.demands.proofs.Bytes.{parts-free, parts-joined, begins-other, cleaned-same, arguments-some}
 use Rattle.demands.proofs.Bytes.{plain-bytes, plain-some, signed-bytes, signed-some}
-use Rattle.demands.proofs.Meanings.{Name, Alike, alike-written, alike-keeps}
+use Rattle.demands.proofs.Meanings.{Name, Alike, alike-text, alike-keeps}
 use Rattle.demands.proofs.Says.{Says}
 
 -- several arguments, divided by ","
@@ -133,6 +133,10 @@ whole-again low high i some most few =
 
 channel-again : (channels i : ℕ) → 1 ≤ i → i ≤ channels → channels ≤ entries → Whole 1 channels i
 channel-again channels i some most few = whole-again 1 channels i some most (omega arith)
+
+-- what is written at an entry is written at an entry with such a row
+alike-written : {e f : ℕ} → Alike e f → (v : ℕ) → written e v ≡ written f v
+alike-written a v = let same = alike-text a in rw (same .0, same .1)
 
 -- what is written at an entry is taken alike at an entry with such a row
 record Fits (e f v : ℕ) : Type 0 where

@@ -18,7 +18,6 @@ returns-2 c =
     (omega (arith, c .pack .ensures, ap (λ (m : Meaning). m .number) (c .before .meaning-of .ensures)))
 
 pub number-of-spec : {M : Type 1} → statement M
-unfolding numberOf packed
 number-of-spec =
     tie.close
     (tie.spec (λ c. search needs) (λ c. search needs) (λ c κs. search needs) (λ c κs. search needs) returns returns-2)
