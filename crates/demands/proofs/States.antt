@@ -39,7 +39,8 @@ command-stays room waiting text s one two =
 
 -- ---- lines
 
-both-stay : (a b c : State) (one two one′ two′ one″ two″ : List ℕ) → Stays a b one two one′ two′ → Stays b c one′ two′ one″ two″ → Stays a c one two one″ two″
+both-stay : (a b c : State) (one two one′ two′ one″ two″ : List ℕ) → Stays a b one two one′ two′ →
+    Stays b c one′ two′ one″ two″ → Stays a c one two one″ two″
 both-stay a b c one two one′ two′ one″ two″ p q =
     record {
       allowed = λ h. q .allowed (p .allowed h);
@@ -61,7 +62,8 @@ unfolding runAll
 run-stays room [] l = record { allowed = λ h. h; unit = refl; first-length = refl; second-length = refl }
 run-stays room (text ∷ more) l =
     by (stepOf room text l .report .dropped)
-    (both-stay (l .after) (next .after) (last .after) (l .one) (l .two) (next .one) (next .two) (last .one) (last .two) (step-stays room text l) (run-stays room more next))
+    (both-stay (l .after) (next .after) (last .after) (l .one) (l .two) (next .one) (next .two) (last .one) (last .two)
+    (step-stays room text l) (run-stays room more next))
   where
     next : Line
     next = stepOf room text l
