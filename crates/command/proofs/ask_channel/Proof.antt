@@ -5,24 +5,9 @@ use borrow.Author.Needs.{needs}
 use Rattle.command.proofs.ask_channel.Statement.{statement}
 use Rattle.command.proofs.ask_channel.Tie as tie
 
-whole-of-requires : tie.Need-whole-of-requires
-whole-of-requires c κs = search needs
-
-enum-known-channel : tie.Need-enum-known-channel
-enum-known-channel c = search needs
-
-enum-told : tie.Need-enum-told
-enum-told c = search needs
-
 returns : tie.Need-returns
 unfolding channelAsked
 returns c = rw (sym (c .before .before .whole-of .ensures) ∙ c .enum-told .given .1)
-
-channel-entry-requires : tie.Need-channel-entry-requires
-channel-entry-requires c κs = search needs
-
-taken-as-requires : tie.Need-taken-as-requires
-taken-as-requires c κs = search needs
 
 returns-2 : tie.Need-returns-2
 unfolding channelAsked
@@ -31,11 +16,5 @@ returns-2 c = c .taken-as .ensures ∙ rw (sym (c .before .before .before .befor
 pub ask-channel-spec : {M : Type 1} → statement M
 ask-channel-spec =
     tie.close
-    (tie.spec
-    whole-of-requires
-    enum-known-channel
-    enum-told
-    returns
-    channel-entry-requires
-    taken-as-requires
-    returns-2)
+    (tie.spec (λ c κs. search needs) (λ c. search needs) (λ c. search needs) returns (λ c κs. search needs)
+    (λ c κs. search needs) returns-2)

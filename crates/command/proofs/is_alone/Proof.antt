@@ -9,12 +9,9 @@ returns : tie.Need-returns
 unfolding aloneOf
 returns c = rw (lt-leb _ _ (c .if1 .taken))
 
-span-of-requires : tie.Need-span-of-requires
-span-of-requires c κs = search needs
-
 returns-2 : tie.Need-returns-2
 unfolding aloneOf
 returns-2 c = rw (← c .span-of .ensures .0, le-leb _ _ (c .before .if1 .left))
 
 pub is-alone-spec : {M : Type 1} → statement M
-is-alone-spec = tie.close (tie.spec returns span-of-requires returns-2)
+is-alone-spec = tie.close (tie.spec returns (λ c κs. search needs) returns-2)

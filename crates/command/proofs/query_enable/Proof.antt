@@ -5,26 +5,11 @@ use borrow.Author.Needs.{needs}
 use Rattle.command.proofs.query_enable.Statement.{statement}
 use Rattle.command.proofs.query_enable.Tie as tie
 
-taken-as-requires : tie.Need-taken-as-requires
-taken-as-requires c κs = search needs
-
 returns : tie.Need-returns
 returns c = let a = c .before .before .before .args in c .taken-as .ensures ∙ enable-none (a .register) (a .args .now) (c .before .if1 .taken)
 
-read-one-requires : tie.Need-read-one-requires
-read-one-requires c κs = search needs
-
-enum-known-i : tie.Need-enum-known-i
-enum-known-i c = search needs
-
-enum-told : tie.Need-enum-told
-enum-told c = search needs
-
 returns-2 : tie.Need-returns-2
 returns-2 c = let a = c .before .before .before .before .before .args in sym (enable-some (a .register) (a .args .now) (c .before .before .before .if1 .left) ∙ rw (sym (c .before .before .read-one .ensures) ∙ c .enum-told .given .1))
-
-ask-enable-bit-requires : tie.Need-ask-enable-bit-requires
-ask-enable-bit-requires c κs = search needs
 
 returns-3 : tie.Need-returns-3
 returns-3 c = let a = c .before .before .before .before .before .before .before .args in c .ask-enable-bit .ensures ∙ sym (enable-some (a .register) (a .args .now) (c .before .before .before .before .before .if1 .left) ∙ rw (sym (c .before .before .before .before .read-one .ensures) ∙ c .before .before .i .given .1))
@@ -32,12 +17,5 @@ returns-3 c = let a = c .before .before .before .before .before .before .before 
 pub query-enable-spec : {M : Type 1} → statement M
 query-enable-spec =
     tie.close
-    (tie.spec
-    taken-as-requires
-    returns
-    read-one-requires
-    enum-known-i
-    enum-told
-    returns-2
-    ask-enable-bit-requires
-    returns-3)
+    (tie.spec (λ c κs. search needs) returns (λ c κs. search needs) (λ c. search needs) (λ c. search needs) returns-2
+    (λ c κs. search needs) returns-3)

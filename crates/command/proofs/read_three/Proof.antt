@@ -6,44 +6,11 @@ use borrow.Author.Needs.{needs}
 use Rattle.command.proofs.read_three.Statement.{statement}
 use Rattle.command.proofs.read_three.Tie as tie
 
-span-of-requires : tie.Need-span-of-requires
-span-of-requires c κs = search needs
-
-add-start : tie.Need-add-start
-add-start c = search needs
-
 slice-aggregate-read : tie.Need-slice-aggregate-read
 slice-aggregate-read c = sym (length-take-le (c .before .before .span-of .result) (c .before .before .before .before .args .args .now) (c .before .before .span-of .ensures .1))
 
-read-requires : tie.Need-read-requires
-read-requires c κs = search needs
-
-enum-known-a : tie.Need-enum-known-a
-enum-known-a c = search needs
-
-enum-told : tie.Need-enum-told
-enum-told c = search needs
-
 returns : tie.Need-returns
 returns c = let a = c .before .before .before .before .before .before .before .args in sym (three-more (a .first) (a .second) (a .third) (a .args .now) (c .before .before .before .before .before .span-of .result) (c .before .before .before .before .before .span-of .ensures .0) (c .before .before .before .before .if1 .taken) ∙ rw (sym (c .before .before .read .ensures) ∙ c .enum-told .given .1))
-
-sub-read-two : tie.Need-sub-read-two
-sub-read-two c = search needs
-
-part-read-two-start : tie.Need-part-read-two-start
-part-read-two-start c = search needs
-
-part-read-two-end : tie.Need-part-read-two-end
-part-read-two-end c = search needs
-
-read-two-requires : tie.Need-read-two-requires
-read-two-requires c κs = search needs
-
-enum-known-b : tie.Need-enum-known-b
-enum-known-b c = search needs
-
-enum-told-2 : tie.Need-enum-told-2
-enum-told-2 c = search needs
 
 returns-2 : tie.Need-returns-2
 returns-2 c = let a = c .before .before .before .before .before .before .before .before .before .before .before .before .args in sym (three-more (a .first) (a .second) (a .third) (a .args .now) (c .before .before .before .before .before .before .before .before .before .before .span-of .result) (c .before .before .before .before .before .before .before .before .before .before .span-of .ensures .0) (c .before .before .before .before .before .before .before .before .before .if1 .taken) ∙ rw (sym (c .before .before .before .before .before .before .before .read .ensures) ∙ c .before .before .before .before .before .a .given .1, sym (c .before .before .read-two .ensures) ∙ c .enum-told2 .given .1))
@@ -57,20 +24,6 @@ returns-4 c = let a = c .before .before .before .args in three-few (a .first) (a
 pub read-three-spec : {M : Type 1} → statement M
 read-three-spec =
     tie.close
-    (tie.spec
-    span-of-requires
-    add-start
-    slice-aggregate-read
-    read-requires
-    enum-known-a
-    enum-told
-    returns
-    sub-read-two
-    part-read-two-start
-    part-read-two-end
-    read-two-requires
-    enum-known-b
-    enum-told-2
-    returns-2
-    returns-3
-    returns-4)
+    (tie.spec (λ c κs. search needs) (λ c. search needs) slice-aggregate-read (λ c κs. search needs)
+    (λ c. search needs) (λ c. search needs) returns (λ c. search needs) (λ c. search needs) (λ c. search needs)
+    (λ c κs. search needs) (λ c. search needs) (λ c. search needs) returns-2 returns-3 returns-4)

@@ -5,41 +5,14 @@ use borrow.Author.Needs.{needs}
 use Rattle.command.proofs.set_enable.Statement.{statement}
 use Rattle.command.proofs.set_enable.Tie as tie
 
-is-alone-requires : tie.Need-is-alone-requires
-is-alone-requires c κs = search needs
-
-read-requires : tie.Need-read-requires
-read-requires c κs = search needs
-
-enum-known-v : tie.Need-enum-known-v
-enum-known-v c = search needs
-
-enum-told : tie.Need-enum-told
-enum-told c = search needs
-
 returns : tie.Need-returns
 returns c = let a = c .before .before .before .before .before .before .args in sym (enable-alone (a .register) (a .args .now) (sym (c .before .before .before .before .is-alone .ensures) ∙ c .before .before .before .if1 .taken) ∙ rw (sym (c .before .before .read .ensures) ∙ c .enum-told .given .1))
-
-take-enable-requires : tie.Need-take-enable-requires
-take-enable-requires c κs = search needs
 
 returns-2 : tie.Need-returns-2
 returns-2 c = let a = c .before .before .before .before .before .before .before .before .args in c .take-enable .ensures ∙ sym (enable-alone (a .register) (a .args .now) (sym (c .before .before .before .before .before .before .is-alone .ensures) ∙ c .before .before .before .before .before .if1 .taken) ∙ rw (sym (c .before .before .before .before .read .ensures) ∙ c .before .before .v .given .1))
 
-read-two-requires : tie.Need-read-two-requires
-read-two-requires c κs = search needs
-
-enum-known-i : tie.Need-enum-known-i
-enum-known-i c = search needs
-
-enum-told-2 : tie.Need-enum-told-2
-enum-told-2 c = search needs
-
 returns-3 : tie.Need-returns-3
 returns-3 c = let a = c .before .before .before .before .before .before .args in sym (enable-bit (a .register) (a .args .now) (sym (c .before .before .before .before .is-alone .ensures) ∙ c .before .before .before .if1 .left) ∙ rw (sym (c .before .before .read-two .ensures) ∙ c .enum-told2 .given .1))
-
-take-enable-bit-requires : tie.Need-take-enable-bit-requires
-take-enable-bit-requires c κs = search needs
 
 returns-4 : tie.Need-returns-4
 returns-4 c = let a = c .before .before .before .before .before .before .before .before .args in c .take-enable-bit .ensures ∙ sym (enable-bit (a .register) (a .args .now) (sym (c .before .before .before .before .before .before .is-alone .ensures) ∙ c .before .before .before .before .before .if1 .left) ∙ rw (sym (c .before .before .before .before .read-two .ensures) ∙ c .before .before .i .given .1))
@@ -47,17 +20,6 @@ returns-4 c = let a = c .before .before .before .before .before .before .before 
 pub set-enable-spec : {M : Type 1} → statement M
 set-enable-spec =
     tie.close
-    (tie.spec
-    is-alone-requires
-    read-requires
-    enum-known-v
-    enum-told
-    returns
-    take-enable-requires
-    returns-2
-    read-two-requires
-    enum-known-i
-    enum-told-2
-    returns-3
-    take-enable-bit-requires
-    returns-4)
+    (tie.spec (λ c κs. search needs) (λ c κs. search needs) (λ c. search needs) (λ c. search needs) returns
+    (λ c κs. search needs) returns-2 (λ c κs. search needs) (λ c. search needs) (λ c. search needs) returns-3
+    (λ c κs. search needs) returns-4)

@@ -7,29 +7,8 @@ use borrow.Author.Needs.{needs}
 use Rattle.command.proofs.set_pair.Statement.{statement}
 use Rattle.command.proofs.set_pair.Tie as tie
 
-row-of-requires : tie.Need-row-of-requires
-row-of-requires c κs = search needs
-
-add-row-of : tie.Need-add-row-of
-add-row-of c = search needs
-
-row-of-requires-2 : tie.Need-row-of-requires-2
-row-of-requires-2 c κs = search needs
-
-read-three-requires : tie.Need-read-three-requires
-read-three-requires c κs = search needs
-
-enum-known-i : tie.Need-enum-known-i
-enum-known-i c = search needs
-
-enum-told : tie.Need-enum-told
-enum-told c = search needs
-
 returns : tie.Need-returns
 returns c = let a = c .before .before .before .before .before .before .args in sym (set-pair (a .base) (a .channels) (omega arith) (arguments (a .args .now)) ∙ rw ((rw (c .before .before .before .before .row-of .ensures, c .before .before .before .row-of2 .ensures) at (sym (c .before .before .read-three .ensures))) ∙ c .enum-told .given .1))
-
-take-pair-requires : tie.Need-take-pair-requires
-take-pair-requires c κs = search needs
 
 returns-2 : tie.Need-returns-2
 returns-2 c = let a = c .before .before .before .before .before .before .before .before .args in c .take-pair .ensures ∙ sym (set-pair (a .base) (a .channels) (omega arith) (arguments (a .args .now)) ∙ rw ((rw (c .before .before .before .before .before .before .row-of .ensures, c .before .before .before .before .before .row-of2 .ensures) at (sym (c .before .before .before .before .read-three .ensures))) ∙ c .before .before .i .given .1))
@@ -37,13 +16,5 @@ returns-2 c = let a = c .before .before .before .before .before .before .before 
 pub set-pair-spec : {M : Type 1} → statement M
 set-pair-spec =
     tie.close
-    (tie.spec
-    row-of-requires
-    add-row-of
-    row-of-requires-2
-    read-three-requires
-    enum-known-i
-    enum-told
-    returns
-    take-pair-requires
-    returns-2)
+    (tie.spec (λ c κs. search needs) (λ c. search needs) (λ c κs. search needs) (λ c κs. search needs)
+    (λ c. search needs) (λ c. search needs) returns (λ c κs. search needs) returns-2)

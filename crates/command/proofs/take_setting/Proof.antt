@@ -5,21 +5,9 @@ use borrow.Author.Needs.{needs}
 use Rattle.command.proofs.take_setting.Statement.{statement}
 use Rattle.command.proofs.take_setting.Tie as tie
 
-take-value-requires : tie.Need-take-value-requires
-take-value-requires c κs = search needs
-
-enum-known-value : tie.Need-enum-known-value
-enum-known-value c = search needs
-
-enum-told : tie.Need-enum-told
-enum-told c = search needs
-
 returns : tie.Need-returns
 unfolding settingTaken
 returns c = rw (sym (c .before .before .take-value .ensures) ∙ c .enum-told .given .1)
-
-taken-as-requires : tie.Need-taken-as-requires
-taken-as-requires c κs = search needs
 
 returns-2 : tie.Need-returns-2
 unfolding settingTaken
@@ -28,4 +16,4 @@ returns-2 c = c .taken-as .ensures ∙ rw (sym (c .before .before .before .befor
 pub take-setting-spec : {M : Type 1} → statement M
 take-setting-spec =
     tie.close
-    (tie.spec take-value-requires enum-known-value enum-told returns taken-as-requires returns-2)
+    (tie.spec (λ c κs. search needs) (λ c. search needs) (λ c. search needs) returns (λ c κs. search needs) returns-2)

@@ -5,9 +5,6 @@ use borrow.Author.Needs.{needs}
 use Rattle.command.proofs.taken_alone.Statement.{statement}
 use Rattle.command.proofs.taken_alone.Tie as tie
 
-taken-as-requires : tie.Need-taken-as-requires
-taken-as-requires c κs = search needs
-
 returns : tie.Need-returns
 returns c = c .taken-as .ensures ∙ alone-none (c .before .before .before .args .kind) (c .before .before .before .args .args .now) (c .before .if1 .taken)
 
@@ -15,4 +12,4 @@ returns-2 : tie.Need-returns-2
 returns-2 c = alone-some (c .before .before .args .kind) (c .before .before .args .args .now) (c .if1 .left)
 
 pub taken-alone-spec : {M : Type 1} → statement M
-taken-alone-spec = tie.close (tie.spec taken-as-requires returns returns-2)
+taken-alone-spec = tie.close (tie.spec (λ c κs. search needs) returns returns-2)

@@ -4,24 +4,6 @@ use borrow.Author.Needs.{needs}
 use Rattle.command.proofs.two_of.Statement.{statement}
 use Rattle.command.proofs.two_of.Tie as tie
 
-span-of-requires : tie.Need-span-of-requires
-span-of-requires c κs = search needs
-
-add-start : tie.Need-add-start
-add-start c = search needs
-
-sub-rest : tie.Need-sub-rest
-sub-rest c = search needs
-
-part-rest-start : tie.Need-part-rest-start
-part-rest-start c = search needs
-
-part-rest-end : tie.Need-part-rest-end
-part-rest-end c = search needs
-
-span-of-requires-2 : tie.Need-span-of-requires-2
-span-of-requires-2 c κs = search needs
-
 returns : tie.Need-returns
 returns c = two-more (c .before .before .before .before .before .before .args .args .now) (c .before .before .before .before .span-of .result) (c .before .span-of2 .result) (c .before .before .before .before .span-of .ensures .0) (c .before .before .before .if1 .taken) (c .before .span-of2 .ensures .0) (c .if2 .taken)
 
@@ -34,13 +16,5 @@ returns-3 c = two-none (c .before .before .before .args .args .now) (c .before .
 pub two-of-spec : {M : Type 1} → statement M
 two-of-spec =
     tie.close
-    (tie.spec
-    span-of-requires
-    add-start
-    sub-rest
-    part-rest-start
-    part-rest-end
-    span-of-requires-2
-    returns
-    returns-2
-    returns-3)
+    (tie.spec (λ c κs. search needs) (λ c. search needs) (λ c. search needs) (λ c. search needs) (λ c. search needs)
+    (λ c κs. search needs) returns returns-2 returns-3)

@@ -5,17 +5,11 @@ use borrow.Author.Needs.{needs}
 use Rattle.command.proofs.word_of.Statement.{statement}
 use Rattle.command.proofs.word_of.Tie as tie
 
-shared-slice-read-high : tie.Need-shared-slice-read-high
-shared-slice-read-high c = search needs
-
 cast-high : tie.Need-cast-high
 cast-high c = omega (arith, c .shared-slice-known .given 0)
 
 mul-high : tie.Need-mul-high
 mul-high c = omega (arith, c .shared-slice-known .given 0)
-
-shared-slice-read-high-2 : tie.Need-shared-slice-read-high-2
-shared-slice-read-high-2 c = search needs
 
 cast-high-2 : tie.Need-cast-high-2
 cast-high-2 c = omega (arith, c .shared-slice-known2 .given 1)
@@ -23,17 +17,11 @@ cast-high-2 c = omega (arith, c .shared-slice-known2 .given 1)
 add-high : tie.Need-add-high
 add-high c = omega (arith, c .before .shared-slice-known .given 0, c .shared-slice-known2 .given 1)
 
-shared-slice-read-low : tie.Need-shared-slice-read-low
-shared-slice-read-low c = search needs
-
 cast-low : tie.Need-cast-low
 cast-low c = omega (arith, c .shared-slice-known3 .given 2)
 
 mul-low : tie.Need-mul-low
 mul-low c = omega (arith, c .shared-slice-known3 .given 2)
-
-shared-slice-read-low-2 : tie.Need-shared-slice-read-low-2
-shared-slice-read-low-2 c = search needs
 
 cast-low-2 : tie.Need-cast-low-2
 cast-low-2 c = omega (arith, c .shared-slice-known4 .given 3)
@@ -53,19 +41,5 @@ returns c = four-word (c .before .before .before .before .args .text .now) (c .b
 pub word-of-spec : {M : Type 1} → statement M
 word-of-spec =
     tie.close
-    (tie.spec
-    shared-slice-read-high
-    cast-high
-    mul-high
-    shared-slice-read-high-2
-    cast-high-2
-    add-high
-    shared-slice-read-low
-    cast-low
-    mul-low
-    shared-slice-read-low-2
-    cast-low-2
-    add-low
-    mul-result
-    add-result
-    returns)
+    (tie.spec (λ c. search needs) cast-high mul-high (λ c. search needs) cast-high-2 add-high (λ c. search needs)
+    cast-low mul-low (λ c. search needs) cast-low-2 add-low mul-result add-result returns)

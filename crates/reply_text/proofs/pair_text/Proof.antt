@@ -1,9 +1,6 @@
 -- `reply_text::pair_text` meets its contract: the text of the first value, then the second behind a comma. Assumes
 -- nothing.
 use native.Mathlib.Omega.{arith}
-use mathlib.Core.Path.{_≡_, _∙_}
-use Prim.Native.Nat.{_≤_, _<_}
-use lib.ListN.{length}
 use Rattle.reply_text.specs.ReplyText.{pairText}
 use Rattle.reply_text.proofs.Texts.{value-length, says-more, says-as}
 use borrow.Author.Needs.{needs}

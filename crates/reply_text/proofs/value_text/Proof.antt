@@ -1,7 +1,6 @@
 -- `reply_text::value_text` meets its contract: the text of the value by its row, which takes 12 bytes at most. Assumes
 -- nothing.
 use native.Mathlib.Omega.{arith}
-use mathlib.Core.Path.{_∙_}
 use Rattle.reply_text.specs.ReplyText.{valueText}
 use Rattle.reply_text.proofs.Texts.{value-length, says-all}
 use borrow.Author.Needs.{needs}

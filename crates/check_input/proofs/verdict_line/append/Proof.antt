@@ -59,26 +59,8 @@ abbrev μ-loop : tie.MeasureT-loop
 loop-holds : tie.Need-loop-holds Inv-loop μ-loop
 loop-holds c = none-yet _ _ _ _ refl (search needs) (search needs)
 
-shared-slice-read-bytes : tie.Need-shared-slice-read-bytes Inv-loop μ-loop
-shared-slice-read-bytes c = omega arith
-
-add-bytes : tie.Need-add-bytes Inv-loop μ-loop
-add-bytes c = omega arith
-
-array-write-bytes : tie.Need-array-write-bytes Inv-loop μ-loop
-array-write-bytes c = omega arith
-
-add-i : tie.Need-add-i Inv-loop μ-loop
-add-i c = omega arith
-
-loop-less : tie.Need-loop-less Inv-loop μ-loop
-loop-less c = omega arith
-
 loop-again : tie.Need-loop-again Inv-loop μ-loop
 loop-again c = one-more _ _ _ _ _ (omega arith) (c .before .before .loop .inv)
-
-add-t14 : tie.Need-add-t14 Inv-loop μ-loop
-add-t14 c = omega arith
 
 returns : tie.Need-returns Inv-loop μ-loop
 returns c = (all-pushed _ _ _ _ (c .before .loop .i) (omega arith) (c .before .loop .inv), refl)
@@ -86,5 +68,5 @@ returns c = (all-pushed _ _ _ _ (c .before .loop .i) (omega arith) (c .before .l
 pub append-spec : {M : Type 1} → statement M
 append-spec =
     tie.close
-    (tie.spec Inv-loop μ-loop loop-holds shared-slice-read-bytes add-bytes array-write-bytes add-i loop-less
-    loop-again add-t14 returns)
+    (tie.spec Inv-loop μ-loop loop-holds (λ c. omega arith) (λ c. omega arith) (λ c. omega arith) (λ c. omega arith)
+    (λ c. omega arith) loop-again (λ c. omega arith) returns)

@@ -1,6 +1,5 @@
 -- `ops_session::alter::queue_of_bytes` is safe and ends: the index stays within the bytes. Assumes nothing.
 use Prim.Native.Nat.{_≤_, _-_}
-use mathlib.Core.Path.{_≡_}
 use lib.ListN.{length}
 use borrow.Author.Needs.{needs}
 use Rattle.ops_session.proofs.alter.queue_of_bytes.Statement.{statement}
