@@ -11,7 +11,6 @@ ghost use Rattle.refusal.specs.declared.Outcome.the-variants.{Refused};
 ghost use Rattle.reply.specs.After.{Meets};
 ghost use Rattle.line.specs.Line.{lineOf};
 ghost use Rattle.event.specs.Event.{happenedOf, eventOf};
-ghost use Rattle.module.specs.Module.{guardOf};
 ghost use Rattle.lockin.specs.Start.{refusedStart, startOf};
 ghost use Rattle.lockin.specs.Calls.{lineCall, byteCall, calledOf, eventCall, takenOf, pollOf};
 ghost use Rattle.lockin.specs.Calls.{guarded, refusedWhole, lineRan, lineEnd, wholeEnd};
@@ -95,21 +94,6 @@ pub fn start(serial: u32, port: u32, one: &[u32], two: &[u32]) -> Started
         return refused_start(Refusal::BadTraces);
     }
     refused_start(Refusal::BadStart)
-}
-
-// Refusals 11 and 9 for a call on a module with traces of these lengths.
-fn guard(m: Module, first: usize, second: usize) -> Outcome
-    ensures { λ r. ⌜ r ≡ guardOf m first second ⌝ }
-{
-    let bytes = m.queue.bytes;
-    module::guard(
-        m.state,
-        &bytes,
-        m.queue.len,
-        m.queue.dropping,
-        first,
-        second,
-    )
 }
 
 // What a line's end leaves of the state, and what is reported.
@@ -229,7 +213,15 @@ pub fn take_line(
 {
     let state = m.state;
     let queue = m.queue;
-    let outcome = guard(m, one.len(), two.len());
+    let bytes = m.queue.bytes;
+    let outcome = module::guard(
+        state,
+        &bytes,
+        queue.len,
+        queue.dropping,
+        one.len(),
+        two.len(),
+    );
     let ended = whole_end(text.len());
     let end = queue::line_end(text.len());
     let r = end_guarded(state, outcome, ended, &text[0..end], one, two, reply);
@@ -333,8 +325,16 @@ pub fn take_event(m: Module, e: Event, one: &mut [u32], two: &mut [u32]) -> Take
 {
     let state = m.state;
     let queue = m.queue;
-    let allowed = guard(m, one.len(), two.len());
-    let h = occur_guarded(state, allowed, e, one, two);
+    let bytes = m.queue.bytes;
+    let guard = module::guard(
+        state,
+        &bytes,
+        queue.len,
+        queue.dropping,
+        one.len(),
+        two.len(),
+    );
+    let h = occur_guarded(state, guard, e, one, two);
     let after = h.state;
     let outcome = h.outcome;
     Taken {

@@ -8,7 +8,7 @@ returns : tie.Need-returns
 returns c =
     let occurred = c .before .before .before .before .before in
     let guard = occurred .before .before .before in
-    let args = guard .before .before .before .before .before .args in
+    let args = guard .before .before .before .before .before .before .before .args in
     event-answers (args .e) (args .m) _ _ (guard .guard .ensures) (occurred .occur-guarded .ensures)
 
 pub take-event-spec : {M : Type 1} → statement M

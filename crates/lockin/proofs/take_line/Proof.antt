@@ -10,7 +10,8 @@ returns c =
     let done = c .before .before .before .before .before .before .before .before in
     let ended = done .before .before .before .before .before in
     let guard = ended .before .before in
-    let args = guard .before .before .before .before .before .before .before .args in
+    let start = guard .before .before .before .before .before in
+    let args = start .before .before .before .before .args in
     line-answers _ _ (args .m) _ _ (guard .guard .ensures) (ended .before .whole-end .ensures)
     (ended .line-end .ensures)
     (rw (sub-zero (ended .line-end .result)) at (done .end-guarded .ensures))
