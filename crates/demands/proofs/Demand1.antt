@@ -115,7 +115,7 @@ module _ (m : Module) (one two : List ℕ) (refusal : Refusal) (q : Queue) where
   end-refuses : (e : Ended) (room : ℕ) (bytes : List ℕ) (t : Queue) → (e ≡ ended.TooLong → t ≡ q) →
       Refuses (withQueue t (lineEnd e room bytes (m .state) one two))
   unfolding lineEnd Refuses
-  end-refuses ended.Nothing room bytes t h = passed-never refusal 0
+  end-refuses ended.Nothing room bytes t h = λ e. never (cc)
   end-refuses ended.Line room bytes t h =
       let c = withQueue t (lineRan (lineOf room bytes (m .state) one two)) in
       placed-never room bytes m t one two c (ran-runs room bytes m t one two) refusal
@@ -214,7 +214,7 @@ line-placed room bytes m one two r p =
     by : (e : Ended) →
         let c = withQueue (m .queue) (lineEnd e room bytes (m .state) one two) in
         c .report .answer ≡ answer.Refused r (p + 1) → RunsLine room bytes m (m .queue) one two c
-    by ended.Nothing e = unfold lineEnd in passed-never r (p + 1) e
+    by ended.Nothing e = unfold lineEnd in never (cc)
     by ended.Line e = unfold lineEnd in ran-runs room bytes m (m .queue) one two
     by ended.TooLong e = unfold lineEnd in nowhere-never LongLine r p e
 
