@@ -24,7 +24,6 @@ use Rattle.event.specs.declared.Event.{Event}
 use Rattle.event.specs.declared.Event.the-variants.{Latest, Tick, Trigger, Measured, Raised}
 use Rattle.event.proofs.Refused.{event-refused}
 use Rattle.queue.specs.Queue as queue
-use Rattle.queue.specs.Parts.{afterRun}
 use Rattle.queue.specs.declared.Queue.{Queue}
 use Rattle.queue.specs.declared.Ended.{Ended}
 use Rattle.queue.specs.declared.Ended.the-variants as ended
@@ -159,7 +158,7 @@ fed-long q port b mark =
     by false false false k p = refl
 
 -- where the line was too long the queue stays as the byte left it
-run-long : (e : Ended) (t q : Queue) → (e ≡ ended.TooLong → t ≡ q) → e ≡ ended.TooLong → afterRun e t ≡ q
+run-long : (e : Ended) (t q : Queue) → (e ≡ ended.TooLong → t ≡ q) → e ≡ ended.TooLong → queue.afterRun e t ≡ q
 run-long ended.Nothing t q h e = never (cc)
 run-long ended.Line t q h e = never (cc)
 run-long ended.TooLong t q h e = h e
@@ -174,7 +173,7 @@ byte-refused room b mark m one two refusal =
     let q = emptiedAt (m .queue) (queue.isMarked port mark) in
     guarded-refuses m one two refusal q (fedByte room b mark m one two)
     (end-refuses m one two refusal q (fed .ended) room (queue.waitingBytes (fed .queue))
-    (afterRun (fed .ended) (fed .queue))
+    (queue.afterRun (fed .ended) (fed .queue))
     (run-long (fed .ended) (fed .queue) q (fed-long (m .queue) port b mark)))
 
 -- ---- the calls that run a line

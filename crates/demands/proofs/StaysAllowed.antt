@@ -17,7 +17,6 @@ use Rattle.state.specs.declared.Unit.{Unit}
 use Rattle.state.specs.declared.State.{State}
 use Rattle.state.proofs.Sound.{start-allowed}
 use Rattle.queue.specs.Queue as queue
-use Rattle.queue.specs.Parts.{afterRun}
 use Rattle.queue.specs.declared.Queue.{Queue}
 use Rattle.queue.specs.declared.Ended.{Ended}
 use Rattle.queue.specs.declared.Ended.the-variants as ended
@@ -214,7 +213,7 @@ fed-length q port b mark = by (q .dropping) (queue.endsLine port b) (ltb (q .len
   by false false false = refl
 
 -- the queue once a line that ended has run
-run-follows : (e : Ended) (m : Module) (q : Queue) → Follows m q → Follows m (afterRun e q)
+run-follows : (e : Ended) (m : Module) (q : Queue) → Follows m q → Follows m (queue.afterRun e q)
 run-follows ended.Nothing m q f = f
 run-follows ended.Line m q f = record { kept = λ h. emptied-keeps q (m .state .unit .port); queued = f .queued }
 run-follows ended.TooLong m q f = f

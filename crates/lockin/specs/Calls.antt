@@ -15,7 +15,6 @@ use Rattle.refusal.specs.Answer.{toldOf}
 use Rattle.state.specs.State.{markedBy}
 use Rattle.state.specs.declared.State.{State}
 use Rattle.queue.specs.Queue as queue
-use Rattle.queue.specs.Parts.{afterRun}
 use Rattle.queue.specs.declared.Queue.{Queue}
 use Rattle.queue.specs.declared.Ended.{Ended}
 use Rattle.queue.specs.declared.Ended.the-variants as ended
@@ -107,7 +106,7 @@ lineCall room line m one two =
 -- what comes of a byte that left this queue: nothing ends, or the line that waits ends, runs and leaves the queue
 -- empty, or it is too long
 unfoldable pub fedCall : Ended → Queue → ℕ → Module → List ℕ → List ℕ → Call
-fedCall e q room m one two = withQueue (afterRun e q) (lineEnd e room (queue.waitingBytes q) (m .state) one two)
+fedCall e q room m one two = withQueue (queue.afterRun e q) (lineEnd e room (queue.waitingBytes q) (m .state) one two)
 
 -- a byte with its end mark
 unfoldable pub fedByte : ℕ → ℕ → Bool → Module → List ℕ → List ℕ → Call

@@ -6,11 +6,9 @@ use mathlib.Core.Bool.{Bool, false, cond, _&&_}
 use mathlib.Core.List.{List}
 use lib.Dec.{ltb}
 use lib.ListN.{set, getD}
-use Rattle.queue.specs.Queue.{Fed, lineLimit, endsLine, emptiedOf}
+use Rattle.queue.specs.Queue.{Fed, lineLimit, endsLine, afterRun}
 use Rattle.queue.specs.declared.Queue.{Queue}
 use Rattle.queue.specs.declared.QueueStep.{QueueStep}
-use Rattle.queue.specs.declared.Ended.{Ended}
-use Rattle.queue.specs.declared.Ended.the-variants.{Nothing, Line, TooLong}
 
 -- a queue from its parts
 abbrev pub queueOf : List ℕ → ℕ → Bool → Queue
@@ -19,12 +17,6 @@ queueOf bytes len dropping = record { bytes = bytes; len = len; dropping = dropp
 -- the bytes with the byte b at an offset, if it is stored and there is room
 abbrev pub storedIn : Bool → ℕ → ℕ → List ℕ → List ℕ
 storedIn stores at b bytes = cond (stores && ltb at lineLimit) (set bytes at b) bytes
-
--- the queue once a line that ended has run
-abbrev pub afterRun : Ended → Queue → Queue
-afterRun Nothing q = q
-afterRun Line q = emptiedOf q
-afterRun TooLong q = q
 
 -- the step r says what a byte b does to every queue in which len bytes wait: fed, the result, which is the queue after
 -- it and what it ends; run, the queue once a line that ended has run

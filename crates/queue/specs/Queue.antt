@@ -33,6 +33,12 @@ emptyQueue = record { bytes = replicate lineLimit 0; len = 0; dropping = false }
 abbrev pub emptiedOf : Queue → Queue
 emptiedOf q = record { bytes = q .bytes; len = 0; dropping = false }
 
+-- the queue once a line that ended has run
+abbrev pub afterRun : Ended → Queue → Queue
+afterRun Nothing q = q
+afterRun Line q = emptiedOf q
+afterRun TooLong q = q
+
 -- the queue with bytes dropped from here on, or not
 abbrev pub droppingIs : Bool → Queue → Queue
 droppingIs t q = record { bytes = q .bytes; len = q .len; dropping = t }
