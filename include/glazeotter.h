@@ -1,8 +1,8 @@
 /* The script check of the lock-in module, for a console in C.
  *
- * Link with libconsole.a, which `rt staticlib console` writes to target/staticlib/.
+ * Link with libc_interface.a, which `rt staticlib c_interface` writes to target/staticlib/.
  *
- * The check's own proofs are in Rattle (crates/console, crates/script, crates/two_courses,
+ * The check's own proofs are in Rattle (crates/c_interface, crates/script, crates/extreme_courses,
  * crates/courses). They cover neither this header nor a caller in C: that script has length
  * bytes is the caller's part.
  */

@@ -27,9 +27,9 @@ fn run_chunk(
     let mut i = 0;
     while i < chunk.len() {
         let called = lockin::take_byte(latest, chunk[i], false, one, two, reply);
-        let told = called.told;
+        let report = called.report;
         latest = called.after;
-        terminal::flush(reply, told.length);
+        terminal::flush(reply, report.length);
         i += 1;
     }
     latest

@@ -9,9 +9,9 @@ use lib.Dec.{ltb}
 use lib.ListN.{length, take}
 use borrow.Author.Tests.{lt-ltb, ltb-true, ltb-false}
 use Rattle.io.specs.Digits.{digits, Fewest}
-use Rattle.text.specs.Text.{padded, places, plain}
-use Rattle.text.proofs.Length.{plain-length}
-use Rattle.text.proofs.Digits.{places-hold, places-least, places-some}
+use Rattle.format.specs.Text.{padded, digitCount, plain}
+use Rattle.format.proofs.Length.{plain-length}
+use Rattle.format.proofs.Digits.{places-hold, places-least, places-some}
 
 -- the last digit by itself
 padded-last : (k n : ℕ) → padded (suc k) n ≡ padded k (n / 10) ++ ((48 + n % 10) ∷ [])
@@ -28,16 +28,16 @@ digits-padded (suc k) n =
     rw (digits-padded k (n / 10), lt-ltb (n % 10) 10 (omega arith)) (sym (padded-last k n))
 
 -- the fewest digits are as many as the number has
-fewest-places : (n k : ℕ) → Fewest 10 1 n k → k ≡ places n
-fewest-places n k f = by (ltb (places n) k) refl where
-  by : (t : Bool) → ltb (places n) k ≡ t → k ≡ places n
+fewest-places : (n k : ℕ) → Fewest 10 1 n k → k ≡ digitCount n
+fewest-places n k f = by (ltb (digitCount n) k) refl where
+  by : (t : Bool) → ltb (digitCount n) k ≡ t → k ≡ digitCount n
   by true e =
-      let l = ltb-true (places n) k e in
+      let l = ltb-true (digitCount n) k e in
       let low = f .2 (omega (arith, places-some n)) in
-      let high : 10 ^ places n ≤ 10 ^ (k - 1) = pow-le-pow-right (omega arith) (omega arith) in
+      let high : 10 ^ digitCount n ≤ 10 ^ (k - 1) = pow-le-pow-right (omega arith) (omega arith) in
       absurd (omega (arith, places-hold n))
   by false e =
-      let l = ltb-false (places n) k e in
+      let l = ltb-false (digitCount n) k e in
       omega (arith, places-least n k (omega arith) (f .1))
 
 -- what is written: as many bytes as are told

@@ -12,11 +12,11 @@ use Rattle.check_input.specs.Bytes.{Memory, memory, lineOneAfter, script
 abbrev either : ℕ → Memory → Bool → Memory
 either b h t = cond t (scriptAfter b h) (memory (lineOneAfter b (h .input)) (h .script))
 
-pub of-script : (b : ℕ) (h : Memory) → h .input .ended ≡ true → afterByte b h ≡ scriptAfter b h
+pub of-script : (b : ℕ) (h : Memory) → h .input .ending ≡ true → afterByte b h ≡ scriptAfter b h
 unfolding afterByte
 of-script b h e = ap (either b h) e
 
-pub of-line-one : (b : ℕ) (h : Memory) → h .input .ended ≡ false →
+pub of-line-one : (b : ℕ) (h : Memory) → h .input .ending ≡ false →
     afterByte b h ≡ memory (lineOneAfter b (h .input)) (h .script)
 unfolding afterByte
 of-line-one b h e = ap (either b h) e

@@ -9,12 +9,12 @@ use lib.ListN.{length, take, drop, set, length-set, length-take}
 use lib.Seq.{take-all, take-nil, take-suc-set, take-append-le, length-take-le}
 use native.Mathlib.Numerals.{add-one}
 use borrow.Author.Tests.{lt-ltb, le-ltb, leb-true, leb-false, ltb-true, ltb-false}
-use Rattle.divide.specs.Divide.{span, before, after}
-use Rattle.refusal.specs.declared.Refusal.the-variants.{LongScriptLine, BadTraces}
+use Rattle.split.specs.Divide.{span, before, after}
+use Rattle.outcome.specs.declared.Refusal.the-variants.{LongScriptLine, BadTraces}
 use Rattle.settings.specs.Limits.{capacityFits}
-use Rattle.two_courses.specs.Model.{modelOf}
-use Rattle.two_courses.specs.Courses.{startBoth}
-use Rattle.script.specs.Check.{found, verdictOf, linesOf, checkOf}
+use Rattle.extreme_courses.specs.Model.{modelOf}
+use Rattle.extreme_courses.specs.Extremes.{startExtremes}
+use Rattle.script.specs.Check.{finding, verdictOf, linesOf, checkOf}
 use Rattle.verdict.specs.declared.Verdict.{Verdict}
 use Rattle.verdict.specs.declared.Verdict.the-variants.{No}
 use Rattle.check_input.specs.Input.{scriptLimit, capacityOf, limitedCheck, inputVerdict}
@@ -31,11 +31,11 @@ pieces (b ∷ bs) second h = pieces bs second (afterByte b h)
 -- ---- the script
 
 abbrev at : ℕ → ℕ → List ℕ → Memory
-at c n script = memory (record { ended = true; capacity = c; len = n }) script
+at c n script = memory (record { ending = true; capacity = c; len = n }) script
 
 -- what is kept of the script's bytes
 pub record Kept (c : ℕ) (bytes : List ℕ) (h : Memory) : Type 0 where
-  pub told : h .input .capacity ≡ c
+  pub report : h .input .capacity ≡ c
   pub first : take (h .input .len) (h .script) ≡ bytes
 
 -- of bytes behind the first n: as many as there is room for
@@ -72,7 +72,7 @@ no-more c n script =
     let m = length-take n script in
     let e : take (length script) (take n script ++ []) ≡ take n script =
     rw (append-nil (take n script)) (take-all (length script) (take n script) (omega arith)) in
-    record { told = refl; first = sym e }
+    record { report = refl; first = sym e }
 
 kept : (bs : List ℕ) (c n : ℕ) (script : List ℕ) → n ≤ length script → Keeps bs c n script
 kept [] c n script h = no-more c n script
@@ -84,10 +84,10 @@ kept (b ∷ bs) c n script h =
 -- ---- line one
 
 abbrev unended : ℕ → List ℕ → Memory
-unended c script = memory (record { ended = false; capacity = c; len = 0 }) script
+unended c script = memory (record { ending = false; capacity = c; len = 0 }) script
 
-abbrev Said : List ℕ → ℕ → List ℕ → Type 0
-Said input c lent =
+abbrev VerdictNumbers : List ℕ → ℕ → List ℕ → Type 0
+VerdictNumbers input c lent =
     verdictFrom (afterBytes input (unended c lent))
     ≡ limitedCheck (capacityAll (before lineFeed input) c) (take (length lent) (after lineFeed input))
 
@@ -113,16 +113,16 @@ module _ (b : ℕ) (bs : List ℕ) (c : ℕ) (lent : List ℕ) where
   abbrev from : ℕ → Verdict
   from n = limitedCheck (capacityAll (take n (b ∷ bs)) c) (take (length lent) (drop (suc n) (b ∷ bs)))
 
-  line-turn : (t : Bool) → eqb b lineFeed ≡ t → Said bs (capacityAfter b c) lent → Said (b ∷ bs) c lent
+  line-turn : (t : Bool) → eqb b lineFeed ≡ t → VerdictNumbers bs (capacityAfter b c) lent → VerdictNumbers (b ∷ bs) c lent
   unfolding afterBytes capacityAll
   line-turn true e later =
       let k = kept bs c 0 lent (omega arith) in
       ap (λ h. verdictFrom (afterBytes bs h)) (ended-by e)
-      ∙ rw (k .told, k .first) refl
+      ∙ rw (k .report, k .first) refl
       ∙ sym (ap from (span-none e))
   line-turn false e later = ap (λ h. verdictFrom (afterBytes bs h)) (goes-on e) ∙ later ∙ sym (ap from (span-more e))
 
-line-one : (input : List ℕ) (c : ℕ) (lent : List ℕ) → Said input c lent
+line-one : (input : List ℕ) (c : ℕ) (lent : List ℕ) → VerdictNumbers input c lent
 line-one [] c lent = unfold afterBytes capacityAll span in rw (take-nil (length lent))
 line-one (b ∷ bs) c lent = line-turn b bs c lent (eqb b lineFeed) refl (line-one bs (capacityAfter b c) lent)
 
@@ -140,7 +140,7 @@ enough c n script h = by (leb (length script) n) refl
         rw (m, lt-ltb scriptLimit n h, lt-ltb scriptLimit (length script) (omega arith)) (either (capacityFits c))
       where
         finds : List ℕ → Verdict
-        finds lines = verdictOf (found (modelOf c) (linesOf lines) startBoth)
+        finds lines = verdictOf (finding (modelOf c) (linesOf lines) startExtremes)
 
         either : (t : Bool) → cond t (No 0 0 LongScriptLine) (cond t (finds (take n script)) (No 0 0 BadTraces))
             ≡ cond t (No 0 0 LongScriptLine) (cond t (finds script) (No 0 0 BadTraces))
@@ -149,11 +149,11 @@ enough c n script h = by (leb (length script) n) refl
 
 pub whole : Whole
 unfolding inputVerdict
-whole = record { pieces = pieces; said = said }
+whole = record { pieces = pieces; verdictNumbers = verdictNumbers }
   where
-    said : (input lent : List ℕ) → scriptLimit < length lent →
+    verdictNumbers : (input lent : List ℕ) → scriptLimit < length lent →
         verdictFrom (afterBytes input (memory startInput lent)) ≡ inputVerdict input
-    said input lent h =
+    verdictNumbers input lent h =
         let line = before lineFeed input in
         let script = after lineFeed input in
         line-one input 0 lent

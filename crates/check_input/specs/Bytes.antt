@@ -24,7 +24,7 @@ memory input script = record { input = input; script = script }
 
 -- nothing has been read
 abbrev pub startInput : Input
-startInput = record { ended = false; capacity = 0; len = 0 }
+startInput = record { ending = false; capacity = 0; len = 0 }
 
 -- "the capacity, digits only": a number past every capacity stays, and what is no digit makes one
 unfoldable pub capacityAfter : ℕ → ℕ → ℕ
@@ -35,20 +35,20 @@ capacityAfter b capacity =
 unfoldable pub lineOneAfter : ℕ → Input → Input
 lineOneAfter b i =
     cond (eqb b lineFeed)
-    (record { ended = true; capacity = i .capacity; len = i .len })
-    (record { ended = false; capacity = capacityAfter b (i .capacity); len = i .len })
+    (record { ending = true; capacity = i .capacity; len = i .len })
+    (record { ending = false; capacity = capacityAfter b (i .capacity); len = i .len })
 
 -- after a byte of the script, which is stored as far as there is room
 unfoldable pub scriptAfter : ℕ → Memory → Memory
 scriptAfter b h =
     let i = h .input in
     cond (ltb (i .len) (length (h .script)))
-    (memory (record { ended = i .ended; capacity = i .capacity; len = i .len + 1 }) (set (h .script) (i .len) b))
+    (memory (record { ending = i .ending; capacity = i .capacity; len = i .len + 1 }) (set (h .script) (i .len) b))
     h
 
 -- after a byte of the input
 unfoldable pub afterByte : ℕ → Memory → Memory
-afterByte b h = cond (h .input .ended) (scriptAfter b h) (memory (lineOneAfter b (h .input)) (h .script))
+afterByte b h = cond (h .input .ending) (scriptAfter b h) (memory (lineOneAfter b (h .input)) (h .script))
 
 -- after some bytes of the input
 unfoldable pub afterBytes : List ℕ → Memory → Memory

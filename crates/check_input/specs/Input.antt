@@ -4,13 +4,13 @@ use mathlib.Core.Bool.{cond, _&&_}
 use mathlib.Core.List.{List}
 use lib.Dec.{ltb}
 use lib.ListN.{length}
-use Rattle.divide.specs.Divide.{before, after}
+use Rattle.split.specs.Divide.{before, after}
 use Rattle.number.specs.Number.{allDigits}
 use Rattle.number.specs.Value.{decimal}
-use Rattle.refusal.specs.declared.Refusal.the-variants.{LongScriptLine}
+use Rattle.outcome.specs.declared.Refusal.the-variants.{LongScriptLine}
 use Rattle.check_input.specs.Bytes.{lineFeed}
 use Rattle.settings.specs.Limits.{capacityFits}
-use Rattle.two_courses.specs.Model.{modelOf}
+use Rattle.extreme_courses.specs.Model.{modelOf}
 use Rattle.script.specs.Check.{checkOf}
 use Rattle.verdict.specs.declared.Verdict.{Verdict}
 use Rattle.verdict.specs.declared.Verdict.the-variants.{No}

@@ -2,9 +2,9 @@
 use Prim.Native.Nat.{ℕ}
 use mathlib.Core.List.{List, [], _∷_, _++_}
 use lib.ListN.{take}
-use Rattle.divide.specs.Ascii.{bytes}
-use Rattle.text.specs.Text.{plain}
-use Rattle.verdict.specs.Said.{Said, ok, no, said}
+use Rattle.split.specs.Ascii.{bytes}
+use Rattle.format.specs.Text.{plain}
+use Rattle.verdict.specs.Numbers.{VerdictNumbers, ok, no, verdictNumbers}
 use Rattle.verdict.specs.declared.Verdict.{Verdict}
 use Rattle.check_input.specs.declared.verdict_line.VerdictLine.{VerdictLine}
 
@@ -17,13 +17,13 @@ abbrev pub spaced : ℕ → List ℕ
 spaced n = 32 ∷ plain n
 
 -- one line: `ok`, or `no` with the line, the place and the refusal's number
-unfoldable pub saidText : Said → List ℕ
+unfoldable pub saidText : VerdictNumbers → List ℕ
 saidText ok = bytes "ok" ++ lineEnd
 saidText (no line place refusal) = bytes "no" ++ (spaced line ++ (spaced place ++ (spaced refusal ++ lineEnd)))
 
 -- the same of a verdict, by its values in document 01's numbers
 abbrev pub verdictText : Verdict → List ℕ
-verdictText v = saidText (said v)
+verdictText v = saidText (verdictNumbers v)
 
 -- the bytes of the code's line, up to its length
 abbrev pub lineBytes : VerdictLine → List ℕ

@@ -18,7 +18,7 @@ pub record Whole : Type 0 where
   pub pieces : (first second : List ℕ) (h : Memory) →
       afterBytes (first ++ second) h ≡ afterBytes second (afterBytes first h)
   -- whatever stood in the lent bytes
-  pub said : (input lent : List ℕ) → scriptLimit < length lent →
+  pub verdictNumbers : (input lent : List ℕ) → scriptLimit < length lent →
       verdictFrom (afterBytes input (memory startInput lent)) ≡ inputVerdict input
 
 -- what is read: some bytes, and the memory after them. Which bytes a call of C reads no contract can say

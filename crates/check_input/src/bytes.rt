@@ -10,7 +10,7 @@ const NO_CAPACITY: u32 = Settings::CAPACITY_MOST + 1;
 // What has been read of the input.
 pub struct Input {
     // Whether line one has ended.
-    pub ended: bool,
+    pub ending: bool,
     // The capacity on line one.
     pub capacity: u32,
     // How many bytes of the script are in the buffer.
@@ -23,7 +23,7 @@ impl Input {
         ensures { λ r. ⌜ r ≡ startInput ⌝ }
     {
         Input {
-            ended: false,
+            ending: false,
             capacity: 0,
             len: 0,
         }
@@ -50,13 +50,13 @@ fn line_one_after(input: Input, b: u8) -> Input
 {
     if b == b'\n' {
         return Input {
-            ended: true,
+            ending: true,
             capacity: input.capacity,
             len: input.len,
         };
     }
     Input {
-        ended: false,
+        ending: false,
         capacity: capacity_after(input.capacity, b),
         len: input.len,
     }
@@ -70,7 +70,7 @@ fn script_after(input: Input, b: u8, script: &mut [u8]) -> Input
     if len < script.len() {
         script[len] = b;
         return Input {
-            ended: input.ended,
+            ending: input.ending,
             capacity: input.capacity,
             len: len + 1,
         };
@@ -82,8 +82,8 @@ fn script_after(input: Input, b: u8, script: &mut [u8]) -> Input
 fn store_byte(input: Input, b: u8, script: &mut [u8]) -> Input
     ensures { λ r. ⌜ memory r (now (script .exit)) ≡ afterByte b (memory input (now (script .entry))) ⌝ }
 {
-    let ended = input.ended;
-    if ended {
+    let ending = input.ending;
+    if ending {
         return script_after(input, b, script);
     }
     line_one_after(input, b)

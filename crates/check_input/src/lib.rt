@@ -11,7 +11,7 @@ mod source;
 mod verdict_line;
 
 pub use bytes::Input;
-use refusal::Refusal;
+use outcome::Refusal;
 use script::Model;
 pub use source::read_input;
 pub use source::script_buffer;
@@ -31,7 +31,7 @@ pub fn limited_check(capacity: u32, script: &[u8]) -> Verdict
     if script.len() <= SCRIPT_LIMIT {
         return script::check(model, script);
     }
-    if two_courses::model_fits(model) {
+    if extreme_courses::model_fits(model) {
         return Verdict::No(0, 0, Refusal::LongScriptLine);
     }
     Verdict::No(0, 0, Refusal::BadTraces)

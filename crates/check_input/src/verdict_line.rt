@@ -3,10 +3,10 @@ ghost use mathlib.Core.Path.{_≡_};
 ghost use mathlib.Core.List.{_++_};
 ghost use Prim.Native.Nat.{_+_, _≤_};
 ghost use lib.ListN.{length};
-ghost use Rattle.refusal.specs.Meaning.{meaningOf};
-ghost use Rattle.verdict.specs.Said.{no};
+ghost use Rattle.outcome.specs.Code.{codeOf};
+ghost use Rattle.verdict.specs.Numbers.{no};
 ghost use Rattle.check_input.specs.VerdictLine.{spaced, saidText, verdictText, lineBytes};
-use refusal::Refusal;
+use outcome::Refusal;
 use verdict::Verdict;
 
 // Room for `no`, three numbers of at most 20 digits, each behind a space, and LF.
@@ -64,9 +64,9 @@ fn line_of_bytes(part: &[u8]) -> VerdictLine
 
 // The line of a no.
 fn no_line(line: usize, place: u32, refusal: Refusal) -> VerdictLine
-    ensures { λ r. ⌜ lineBytes r ≡ saidText (no line place (meaningOf refusal .number)) ⌝ }
+    ensures { λ r. ⌜ lineBytes r ≡ saidText (no line place (codeOf refusal .number)) ⌝ }
 {
-    let meaning = refusal::meaning_of(refusal);
+    let meaning = outcome::code_of(refusal);
     let no = line_of_bytes(b"no");
     let with_line = append_number(no, line as u64);
     let with_place = append_number(with_line, place as u64);

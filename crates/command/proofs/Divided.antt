@@ -8,8 +8,8 @@ use native.Mathlib.Numerals.{add-one}
 use lib.Dec.{leb, ltb, eqb}
 use lib.ListN.{length, take, drop}
 use borrow.Author.Tests.{lt-ltb, le-ltb, leb-true, leb-false, ltb-true, ltb-false, eqb-true, eqb-false}
-use Rattle.divide.specs.Divide.{span, before, after, parts, onHead}
-use Rattle.divide.proofs.Span.{span-le, parts-more, parts-last, rest-from}
+use Rattle.split.specs.Divide.{span, before, after, parts, onHead}
+use Rattle.split.proofs.Span.{span-le, parts-more, parts-last, rest-from}
 use Rattle.number.specs.Number.{isNumber}
 use Rattle.number.specs.Parts.{readOf}
 use Rattle.number.specs.declared.Reading.{Reading}
@@ -159,7 +159,7 @@ two-not d e s = by (ltb (span comma s) (length s)) refl (ltb (span comma (after 
 
 -- two numbers, the second from behind the comma to the end
 abbrev both : Reading → Reading → TwoNumbers
-both (Number a) (Number b) = pair.Numbers a b
+both (Number a) (Number b) = pair.ReportNumbers a b
 both (Number a) NotNumber = pair.Not
 both NotNumber r = pair.Not
 
@@ -168,7 +168,7 @@ module _ (d e : ℕ) (s : List ℕ) (k : ℕ) (at : twoOf s ≡ At k) where
       ≡ both (readOf d (take k s)) (readOf e (take (length s - (k + 1)) (drop (k + 1) s)))
   unfolding readTwo readOf
   two-read = rw (two-at s k at .1, rest-from s (k + 1), add-one k) (by (isNumber (take k s)) (isNumber (drop (suc k) s))) where
-    by : (t u : Bool) → cond (t && u) (pair.Numbers (kept d (take k s)) (kept e (drop (suc k) s))) pair.Not
+    by : (t u : Bool) → cond (t && u) (pair.ReportNumbers (kept d (take k s)) (kept e (drop (suc k) s))) pair.Not
         ≡ both (cond t (Number (kept d (take k s))) NotNumber) (cond u (Number (kept e (drop (suc k) s))) NotNumber)
     by true true = refl
     by true false = refl
@@ -176,7 +176,7 @@ module _ (d e : ℕ) (s : List ℕ) (k : ℕ) (at : twoOf s ≡ At k) where
 
 -- a first number, and two more
 abbrev pub joined : Reading → TwoNumbers → ThreeNumbers
-joined (Number a) (pair.Numbers b c) = triple.Numbers a b c
+joined (Number a) (pair.ReportNumbers b c) = triple.ReportNumbers a b c
 joined (Number a) pair.Not = triple.Not
 joined NotNumber t = triple.Not
 
@@ -190,8 +190,8 @@ unfolding readThree readTwo readOf
 three-join d e f a [] = sym (joined-not (readOf d a))
 three-join d e f a (b ∷ []) = sym (joined-not (readOf d a))
 three-join d e f a (b ∷ c ∷ []) = by (isNumber a) (isNumber b && isNumber c) where
-  by : (t u : Bool) → cond (t && u) (triple.Numbers (kept d a) (kept e b) (kept f c)) triple.Not
-      ≡ joined (cond t (Number (kept d a)) NotNumber) (cond u (pair.Numbers (kept e b) (kept f c)) pair.Not)
+  by : (t u : Bool) → cond (t && u) (triple.ReportNumbers (kept d a) (kept e b) (kept f c)) triple.Not
+      ≡ joined (cond t (Number (kept d a)) NotNumber) (cond u (pair.ReportNumbers (kept e b) (kept f c)) pair.Not)
   by true true = refl
   by true false = refl
   by false u = refl

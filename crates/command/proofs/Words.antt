@@ -8,13 +8,13 @@ use lib.Dec.{T}
 use lib.ListN.{length, take, drop, getD, drop-of-length-le}
 use lib.Seq.{drop-cons}
 use borrow.Author.Tests.{lt-ltb, le-ltb, eq-eqb, ne-eqb}
-use Rattle.divide.proofs.Span.{rest-from}
+use Rattle.split.proofs.Span.{rest-from}
 use Rattle.number.specs.Number.{begins}
-use Rattle.name.specs.Names.{meaningOf}
-use Rattle.name.specs.Parts.{word, foundOf}
-use Rattle.name.specs.Words.{isFour}
-use Rattle.name.proofs.Words.{found-word}
-use Rattle.name.specs.declared.Meaning.{Meaning}
+use Rattle.mnemonic.specs.Names.{meaningOf}
+use Rattle.mnemonic.specs.Parts.{word, foundOf}
+use Rattle.mnemonic.specs.Words.{isFour}
+use Rattle.mnemonic.proofs.Words.{found-word}
+use Rattle.mnemonic.specs.declared.Meaning.{Meaning}
 use Rattle.command.specs.Arguments.{arguments}
 use Rattle.command.specs.Parsed.{parsedOf, malformed, setWith, queryWith}
 use Rattle.command.specs.declared.Parsed.the-variants.{Empty}
@@ -46,9 +46,9 @@ four-bytes (a ∷ b ∷ c ∷ []) h f = absurd (omega arith)
 four-bytes (a ∷ b ∷ c ∷ d ∷ s) h f = rw (lt-ltb a 256 (f 0), lt-ltb b 256 (f 1), lt-ltb c 256 (f 2), lt-ltb d 256 (f 3)) tt
 
 -- a name that was found, and what follows it
-module _ (s : List ℕ) (w : ℕ) (m : Meaning) (h : 4 ≤ length s) (f : (i : ℕ) → getD s i 0 < 256) (e : w ≡ word (take 4 s)) (found : m ≡ foundOf w) where
+module _ (s : List ℕ) (w : ℕ) (m : Meaning) (h : 4 ≤ length s) (f : (i : ℕ) → getD s i 0 < 256) (e : w ≡ word (take 4 s)) (finding : m ≡ foundOf w) where
   meaning-is : m ≡ meaningOf (take 4 s)
-  meaning-is = found ∙ rw e (found-word (take 4 s) (four-bytes s h f))
+  meaning-is = finding ∙ rw e (found-word (take 4 s) (four-bytes s h f))
 
   parsed-is : (t : Bool) → begins 63 (drop 4 s) ≡ t →
       parsedOf s ≡ cond t (queryWith m (arguments (drop 5 s))) (setWith m (arguments (drop 4 s)))

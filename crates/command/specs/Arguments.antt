@@ -1,8 +1,8 @@
 -- A command's marks and arguments: document 01, "Lines and commands".
 use Prim.Native.Nat.{ℕ}
 use mathlib.Core.List.{List, [], _∷_}
-use Rattle.divide.specs.Divide.{parts}
-pub use Rattle.divide.specs.Ascii.{comma}
+use Rattle.split.specs.Divide.{parts}
+pub use Rattle.split.specs.Ascii.{comma}
 
 -- what makes a command a query: "?"
 abbrev pub questionMark : ℕ

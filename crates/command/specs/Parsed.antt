@@ -11,12 +11,12 @@ use Rattle.number.specs.declared.Argument.{Argument}
 use Rattle.number.specs.declared.Argument.the-variants as argument
 use Rattle.settings.specs.Limits.{capacityLeast, capacityMost}
 use Rattle.settings.specs.Setting.{settingOf}
-use Rattle.refusal.specs.declared.Refusal.the-variants.{Malformed, OutOfRange}
-use Rattle.name.specs.Names.{meaningOf}
-use Rattle.name.specs.declared.Register.{Register}
-use Rattle.name.specs.declared.Form.{Form}
-use Rattle.name.specs.declared.Meaning.{Meaning}
-use Rattle.name.specs.declared.Meaning.the-variants as meaning
+use Rattle.outcome.specs.declared.Refusal.the-variants.{Malformed, OutOfRange}
+use Rattle.mnemonic.specs.Names.{meaningOf}
+use Rattle.mnemonic.specs.declared.Register.{Register}
+use Rattle.mnemonic.specs.declared.Form.{Form}
+use Rattle.mnemonic.specs.declared.Meaning.{Meaning}
+use Rattle.mnemonic.specs.declared.Meaning.the-variants as meaning
 use Rattle.command.specs.Arguments.{questionMark, arguments}
 use Rattle.command.specs.declared.SetArgument.the-variants as set
 use Rattle.command.specs.declared.QueryArgument.the-variants as query

@@ -6,7 +6,7 @@ use mathlib.Core.Bool.{Bool, cond, _&&_}
 use mathlib.Core.List.{List, [], _∷_}
 use lib.Dec.{leb, ltb, eqb}
 use lib.ListN.{length}
-use Rattle.divide.specs.Divide.{span, after}
+use Rattle.split.specs.Divide.{span, after}
 use Rattle.number.specs.Number.{isNumber}
 use Rattle.number.specs.Value.{exactOf}
 use Rattle.number.specs.Parts.{quantityOf, readOf, takenOf}
@@ -16,8 +16,8 @@ use Rattle.number.specs.declared.Reading.the-variants.{NotNumber}
 use Rattle.number.specs.declared.Argument.{Argument}
 use Rattle.settings.specs.Limits.{capacityLeast, capacityMost}
 use Rattle.settings.specs.Parts.{valueTaken}
-use Rattle.name.specs.declared.Register.{Register}
-use Rattle.name.specs.declared.Form.{Form}
+use Rattle.mnemonic.specs.declared.Register.{Register}
+use Rattle.mnemonic.specs.declared.Form.{Form}
 use Rattle.command.specs.Arguments.{comma}
 use Rattle.command.specs.Parsed.{taken, with, wholeRange, bitMost, registerMost, traces}
 use Rattle.command.specs.declared.SetArgument.the-variants as set
@@ -56,7 +56,7 @@ readOne d (a ∷ b ∷ more) = NotNumber
 unfoldable pub readTwo : ℕ → ℕ → List (List ℕ) → TwoNumbers
 readTwo d e [] = pair.Not
 readTwo d e (a ∷ []) = pair.Not
-readTwo d e (a ∷ b ∷ []) = cond (isNumber a && isNumber b) (pair.Numbers (kept d a) (kept e b)) pair.Not
+readTwo d e (a ∷ b ∷ []) = cond (isNumber a && isNumber b) (pair.ReportNumbers (kept d a) (kept e b)) pair.Not
 readTwo d e (a ∷ b ∷ c ∷ more) = pair.Not
 
 -- three arguments that are numbers with d, e and f decimals
@@ -65,7 +65,7 @@ readThree d e f [] = triple.Not
 readThree d e f (a ∷ []) = triple.Not
 readThree d e f (a ∷ b ∷ []) = triple.Not
 readThree d e f (a ∷ b ∷ c ∷ []) =
-    cond (isNumber a && (isNumber b && isNumber c)) (triple.Numbers (kept d a) (kept e b) (kept f c)) triple.Not
+    cond (isNumber a && (isNumber b && isNumber c)) (triple.ReportNumbers (kept d a) (kept e b) (kept f c)) triple.Not
 readThree d e f (a ∷ b ∷ c ∷ g ∷ more) = triple.Not
 
 -- a quantity as a whole-number argument from low to high

@@ -2,7 +2,7 @@
 ghost use mathlib.Core.Path.{_≡_};
 ghost use Prim.Native.Nat.{_+_, _-_, _*_, _≤_};
 ghost use lib.ListN.{length, take};
-ghost use Rattle.name.specs.Parts.{word};
+ghost use Rattle.mnemonic.specs.Parts.{word};
 ghost use Rattle.number.specs.Parts.{takenOf};
 ghost use Rattle.command.specs.Arguments.{arguments};
 ghost use Rattle.command.specs.Parts.{aloneOf, twoOf};
@@ -12,15 +12,15 @@ ghost use Rattle.command.specs.Parsed.{queryChannel, queryChannelPair, q
 ghost use Rattle.command.specs.Parts.{readOne, readTwo, readThree, traceAsked};
 ghost use Rattle.command.specs.Parts.{settingTaken, channelTaken, pairTaken, enableTaken, enableBitTaken};
 ghost use Rattle.command.specs.Parts.{channelAsked, pairAsked, enableBitAsked, statusBitAsked};
-use name::Action;
-use name::Form;
-use name::Meaning;
-use name::Register;
+use mnemonic::Action;
+use mnemonic::Form;
+use mnemonic::Meaning;
+use mnemonic::Register;
 use number::Argument;
 use number::Quantity;
 use number::Range;
 use number::Reading;
-use refusal::Refusal;
+use outcome::Refusal;
 use settings::Settings;
 
 // The number of a register's highest bit.
@@ -103,7 +103,7 @@ enum Two {
 // Whether a text is two arguments that are numbers.
 enum TwoNumbers {
     // Their values, in order.
-    Numbers(Quantity, Quantity),
+    ReportNumbers(Quantity, Quantity),
     // Another count, or a text that is no number.
     Not,
 }
@@ -111,7 +111,7 @@ enum TwoNumbers {
 // Whether a text is three arguments that are numbers.
 enum ThreeNumbers {
     // Their values, in order.
-    Numbers(Quantity, Quantity, Quantity),
+    ReportNumbers(Quantity, Quantity, Quantity),
     // Another count, or a text that is no number.
     Not,
 }
@@ -123,7 +123,7 @@ fn is_alone(args: &[u8]) -> bool
     if args.len() < 1 {
         return false;
     }
-    let comma = divide::span_of(args, b',');
+    let comma = split::span_of(args, b',');
     comma == args.len()
 }
 
@@ -131,11 +131,11 @@ fn is_alone(args: &[u8]) -> bool
 fn two_of(args: &[u8]) -> Two
     ensures { λ r. ⌜ r ≡ twoOf (now (args .entry)) ⌝ }
 {
-    let comma = divide::span_of(args, b',');
+    let comma = split::span_of(args, b',');
     if comma < args.len() {
         let start = comma + 1;
         let rest = &args[start..];
-        let next = divide::span_of(rest, b',');
+        let next = split::span_of(rest, b',');
         if next < rest.len() {
             return Two::Not;
         }
@@ -150,7 +150,7 @@ fn read_one(args: &[u8], decimals: u8) -> Reading
 {
     let alone = is_alone(args);
     if alone {
-        return reading::read(args, decimals);
+        return number::read(args, decimals);
     }
     Reading::NotNumber
 }
@@ -163,29 +163,29 @@ fn read_two(args: &[u8], first: u8, second: u8) -> TwoNumbers
         return TwoNumbers::Not;
     };
     let start = comma + 1;
-    let Reading::Number(a) = reading::read(&args[..comma], first) else {
+    let Reading::Number(a) = number::read(&args[..comma], first) else {
         return TwoNumbers::Not;
     };
-    let Reading::Number(b) = reading::read(&args[start..], second) else {
+    let Reading::Number(b) = number::read(&args[start..], second) else {
         return TwoNumbers::Not;
     };
-    TwoNumbers::Numbers(a, b)
+    TwoNumbers::ReportNumbers(a, b)
 }
 
 // Three arguments as numbers, in units by their decimals `first`, `second` and `third`.
 fn read_three(args: &[u8], first: u8, second: u8, third: u8) -> ThreeNumbers
     ensures { λ r. ⌜ r ≡ readThree first second third (arguments (now (args .entry))) ⌝ }
 {
-    let comma = divide::span_of(args, b',');
+    let comma = split::span_of(args, b',');
     if comma < args.len() {
         let start = comma + 1;
-        let Reading::Number(a) = reading::read(&args[..comma], first) else {
+        let Reading::Number(a) = number::read(&args[..comma], first) else {
             return ThreeNumbers::Not;
         };
-        let TwoNumbers::Numbers(b, c) = read_two(&args[start..], second, third) else {
+        let TwoNumbers::ReportNumbers(b, c) = read_two(&args[start..], second, third) else {
             return ThreeNumbers::Not;
         };
-        return ThreeNumbers::Numbers(a, b, c);
+        return ThreeNumbers::ReportNumbers(a, b, c);
     }
     ThreeNumbers::Not
 }
@@ -369,7 +369,7 @@ fn set_channel(base: u8, channels: u8, args: &[u8]) -> Parsed
     ensures { λ r. ⌜ r ≡ setChannel base channels (arguments (now (args .entry))) ⌝ }
 {
     let row = settings::row_of(base as usize);
-    let TwoNumbers::Numbers(i, x) = read_two(args, 0, row.decimals) else {
+    let TwoNumbers::ReportNumbers(i, x) = read_two(args, 0, row.decimals) else {
         return Parsed::Refused(Refusal::Malformed);
     };
     take_channel(base, channels, i, x)
@@ -382,7 +382,8 @@ fn set_pair(base: u8, channels: u8, args: &[u8]) -> Parsed
     let first = base as usize;
     let row = settings::row_of(first);
     let next = settings::row_of(first + 1);
-    let ThreeNumbers::Numbers(i, x, y) = read_three(args, 0, row.decimals, next.decimals) else {
+    let ThreeNumbers::ReportNumbers(i, x, y) = read_three(args, 0, row.decimals, next.decimals)
+    else {
         return Parsed::Refused(Refusal::Malformed);
     };
     take_pair(base, channels, i, x, y)
@@ -394,12 +395,12 @@ fn set_enable(register: Register, args: &[u8]) -> Parsed
 {
     let single = is_alone(args);
     if single {
-        let Reading::Number(v) = reading::read(args, 0) else {
+        let Reading::Number(v) = number::read(args, 0) else {
             return Parsed::Refused(Refusal::Malformed);
         };
         return take_enable(register, v);
     }
-    let TwoNumbers::Numbers(i, v) = read_two(args, 0, 0) else {
+    let TwoNumbers::ReportNumbers(i, v) = read_two(args, 0, 0) else {
         return Parsed::Refused(Refusal::Malformed);
     };
     take_enable_bit(register, i, v)
@@ -455,7 +456,7 @@ fn query_status(register: Register, args: &[u8]) -> Parsed
 fn query_trace(form: Form, args: &[u8]) -> Parsed
     ensures { λ r. ⌜ r ≡ queryTrace form (arguments (now (args .entry))) ⌝ }
 {
-    let ThreeNumbers::Numbers(i, j, k) = read_three(args, 0, 0, 0) else {
+    let ThreeNumbers::ReportNumbers(i, j, k) = read_three(args, 0, 0, 0) else {
         return Parsed::Refused(Refusal::Malformed);
     };
     ask_trace(form, i, j, k)
@@ -529,7 +530,7 @@ pub fn parse(text: &[u8]) -> Parsed
     if n < 4 {
         return Parsed::Refused(Refusal::Malformed);
     }
-    let meaning = name::find(word_of(text));
+    let meaning = mnemonic::find(word_of(text));
     if n < 5 {
         return set_with(meaning, &text[4..]);
     }

@@ -1,3 +1,3 @@
 -- Laws on events.
-pub mod Stays
+pub mod Preserved
 pub mod Refused

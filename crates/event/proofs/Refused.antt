@@ -4,15 +4,15 @@ use native.Mathlib.Omega.{arith}
 use mathlib.Core.Bool.{Bool, true, false, cond}
 use mathlib.Core.List.{List}
 use mathlib.Core.Path.{_≡_, refl}
-use Rattle.refusal.specs.declared.Refusal.the-variants.{BadEvent}
-use Rattle.refusal.specs.declared.Outcome.{Outcome}
-use Rattle.refusal.specs.declared.Outcome.the-variants.{Done, Refused}
+use Rattle.outcome.specs.declared.Refusal.the-variants.{BadEvent}
+use Rattle.outcome.specs.declared.Outcome.{Outcome}
+use Rattle.outcome.specs.declared.Outcome.the-variants.{Done, Refused}
 use Rattle.status.specs.Status.{withRaised, mayRaise}
 use Rattle.state.specs.State.{pairOf, withRegisters, withLatest}
-use Rattle.state.specs.Allowed.{keepsLatest}
+use Rattle.state.specs.Valid.{latestValid}
 use Rattle.state.specs.declared.State.{State}
-use Rattle.reply.specs.After.{After}
-use Rattle.event.specs.Event.{done, refused, pairTaken, bitsRaised, sampledIn, eventOf}
+use Rattle.reply_buffer.specs.After.{After}
+use Rattle.event.specs.Event.{done, refused, latestTaken, bitsRaised, sampledIn, eventOf}
 use Rattle.event.specs.declared.Event.{Event}
 use Rattle.event.specs.declared.Event.the-variants.{Latest, Tick, Trigger, Measured, Raised}
 
@@ -33,10 +33,10 @@ either false a s p = refl
 
 pub event-refused : (e : Event) (s : State) (one two : List ℕ) → eventOf e s one two .report ≡ Refused BadEvent
     → Unchanged (eventOf e s one two) s one two
-unfolding eventOf pairTaken bitsRaised sampledIn
+unfolding eventOf latestTaken bitsRaised sampledIn
 event-refused (Latest w v) s one two p =
     record {
-      state = either (keepsLatest (pairOf w v)) (withLatest (pairOf w v) s) s p;
+      state = either (latestValid (pairOf w v)) (withLatest (pairOf w v) s) s p;
       first = refl;
       second = refl;
     }

@@ -2,41 +2,41 @@
 use Prim.Native.Nat.{ℕ, _*_, _^_}
 use mathlib.Core.Bool.{Bool, cond, _&&_}
 use mathlib.Core.List.{List, []}
-use Rattle.refusal.specs.declared.Refusal.the-variants.{BadEvent}
-use Rattle.refusal.specs.declared.Outcome.{Outcome}
-use Rattle.refusal.specs.declared.Outcome.the-variants.{Done, Refused}
+use Rattle.outcome.specs.declared.Refusal.the-variants.{BadEvent}
+use Rattle.outcome.specs.declared.Outcome.{Outcome}
+use Rattle.outcome.specs.declared.Outcome.the-variants.{Done, Refused}
 use Rattle.settings.specs.Table.{harm, valueOf}
 use Rattle.settings.specs.Frequency.{isInternal, withinLimit, frequencyInRange}
 use Rattle.status.specs.Status.{withLia, withRaised, mayRaise}
-use Rattle.storage.specs.declared.Sampled.{Sampled}
-use Rattle.state.specs.State.{pairOf, atFrequency, withMoving, withRegisters, withLatest, detectionNow, crossedFrom}
+use Rattle.storage.specs.declared.StorageStep.{StorageStep}
+use Rattle.state.specs.State.{pairOf, atFrequency, withAcquisition, withRegisters, withLatest, detectionNow, crossedFrom}
 use Rattle.state.specs.Storing.{triggerOf, tickOf, sampledBy, storedIn}
-use Rattle.state.specs.Allowed.{keepsLatest}
+use Rattle.state.specs.Valid.{latestValid}
 use Rattle.state.specs.declared.State.{State}
-use Rattle.reply.specs.After.{After, silent}
-use Rattle.event.specs.declared.Happened.{Happened}
+use Rattle.reply_buffer.specs.After.{After, silent}
+use Rattle.event.specs.declared.EventEffect.{EventEffect}
 use Rattle.event.specs.declared.Event.{Event}
 use Rattle.event.specs.declared.Event.the-variants.{Latest, Tick, Trigger, Measured, Raised}
 
 -- what the code gives back of an event
-abbrev pub happenedOf : After State Outcome → Happened
-happenedOf e = record { state = e .after; outcome = e .report }
+abbrev pub eventEffect : After State Outcome → EventEffect
+eventEffect e = record { state = e .after; outcome = e .report }
 
 -- an event that stores nothing
-abbrev pub quiet : Happened → List ℕ → List ℕ → After State Outcome
+abbrev pub quiet : EventEffect → List ℕ → List ℕ → After State Outcome
 quiet h one two = silent (h .outcome) (h .state) one two
 
 -- refusal 6, "event value not legal (a point, a bit)": "nothing"
-abbrev pub refused : State → Happened
+abbrev pub refused : State → EventEffect
 refused s = record { state = s; outcome = Refused BadEvent }
 
 -- a state, and nothing refused
-abbrev pub done : State → Happened
+abbrev pub done : State → EventEffect
 done s = record { state = s; outcome = Done }
 
 -- "a new latest pair (two points, one per trace ..)"
-unfoldable pub pairTaken : ℕ → ℕ → State → Happened
-pairTaken w v s = cond (keepsLatest (pairOf w v)) (done (withLatest (pairOf w v) s)) (refused s)
+unfoldable pub latestTaken : ℕ → ℕ → State → EventEffect
+latestTaken w v s = cond (latestValid (pairOf w v)) (done (withLatest (pairOf w v) s)) (refused s)
 
 -- neither "outside 0.001 to 102000 Hz" nor "breaking the 102 kHz limit": asked where the external frequency is in force
 unfoldable pub takesFrequency : State → ℕ → Bool
@@ -44,7 +44,7 @@ takesFrequency s f = frequencyInRange f && withinLimit (valueOf (s .settings) ha
 
 -- a state with another external frequency
 abbrev pub withExternal : ℕ → State → State
-withExternal f s = withMoving (atFrequency f (s .moving)) s
+withExternal f s = withAcquisition (atFrequency f (s .acquisition)) s
 
 -- LIA bit 3
 abbrev pub notTaken : ℕ
@@ -59,12 +59,12 @@ measuredBy f s =
     (withRegisters (withLia (s .registers) notTaken) s))
 
 -- "raised bits (LIA 0-3; ERR 1, 2, 4-7)"
-unfoldable pub bitsRaised : ℕ → ℕ → State → Happened
+unfoldable pub bitsRaised : ℕ → ℕ → State → EventEffect
 bitsRaised lia errors s =
     cond (mayRaise lia errors) (done (withRegisters (withRaised (s .registers) lia errors) s)) (refused s)
 
 -- a trigger or a tick: the latest pair goes into the traces where it is stored
-unfoldable pub sampledIn : Sampled → State → List ℕ → List ℕ → After State Outcome
+unfoldable pub sampledIn : StorageStep → State → List ℕ → List ℕ → After State Outcome
 sampledIn p s one two =
     record {
       after = sampledBy p s;
@@ -76,7 +76,7 @@ sampledIn p s one two =
 
 -- "Events: a new latest pair .., tick, trigger, measured frequency, raised bits"
 unfoldable pub eventOf : Event → State → List ℕ → List ℕ → After State Outcome
-eventOf (Latest w v) s one two = quiet (pairTaken w v s) one two
+eventOf (Latest w v) s one two = quiet (latestTaken w v s) one two
 eventOf Tick s one two = sampledIn (tickOf s) s one two
 eventOf Trigger s one two = sampledIn (triggerOf s) s one two
 eventOf (Measured f) s one two = quiet (done (measuredBy f s)) one two

@@ -1,14 +1,14 @@
 // Events: a new latest pair, a tick, a trigger, a measured frequency, raised bits.
 ghost use mathlib.Core.Path.{_≡_};
 ghost use mathlib.Core.List.{[]};
-ghost use Rattle.reply.specs.After.{Meets};
-ghost use Rattle.event.specs.Event.{pairTaken, takesFrequency, withExternal, measuredBy, bitsRaised};
-ghost use Rattle.event.specs.Event.{happenedOf, sampledIn, eventOf};
-use refusal::Outcome;
-use refusal::Refusal;
+ghost use Rattle.reply_buffer.specs.After.{Meets};
+ghost use Rattle.event.specs.Event.{latestTaken, takesFrequency, withExternal, measuredBy, bitsRaised};
+ghost use Rattle.event.specs.Event.{eventEffect, sampledIn, eventOf};
+use outcome::Outcome;
+use outcome::Refusal;
 use state::Pair;
 use state::State;
-use storage::Sampled;
+use storage::StorageStep;
 
 // LIA bit 3: a measured frequency is not taken.
 const NOT_TAKEN: u8 = 0x08;
@@ -28,7 +28,7 @@ pub enum Event {
 }
 
 // What came of an event.
-pub struct Happened {
+pub struct EventEffect {
     // The state after it.
     pub state: State,
     // Whether it was refused.
@@ -36,19 +36,19 @@ pub struct Happened {
 }
 
 // A new latest pair, of two legal points.
-fn new_pair(s: State, w: u32, v: u32) -> Happened
-    ensures { λ r. ⌜ r ≡ pairTaken w v s ⌝ }
+fn new_pair(s: State, w: u32, v: u32) -> EventEffect
+    ensures { λ r. ⌜ r ≡ latestTaken w v s ⌝ }
 {
     let latest = Pair { one: w, two: v };
-    if state::keeps_latest(latest) {
+    if state::latest_valid(latest) {
         let mut t = s;
         t.latest = latest;
-        return Happened {
+        return EventEffect {
             state: t,
             outcome: Outcome::Done,
         };
     }
-    Happened {
+    EventEffect {
         state: s,
         outcome: Outcome::Refused(Refusal::BadEvent),
     }
@@ -70,7 +70,7 @@ fn with_external(s: State, frequency: u32) -> State
     ensures { λ r. ⌜ r ≡ withExternal frequency s ⌝ }
 {
     let mut t = s;
-    t.moving.external = frequency;
+    t.acquisition.external = frequency;
     t
 }
 
@@ -91,45 +91,45 @@ fn measured(s: State, frequency: u32) -> State
 }
 
 // Raised bits, where an event may raise them.
-fn raised(s: State, lia: u8, errors: u8) -> Happened
+fn raised(s: State, lia: u8, errors: u8) -> EventEffect
     ensures { λ r. ⌜ r ≡ bitsRaised lia errors s ⌝ }
 {
     if status::may_raise(lia, errors) {
         let mut t = s;
         t.registers = status::with_raised(s.registers, lia, errors);
-        return Happened {
+        return EventEffect {
             state: t,
             outcome: Outcome::Done,
         };
     }
-    Happened {
+    EventEffect {
         state: s,
         outcome: Outcome::Refused(Refusal::BadEvent),
     }
 }
 
 // A trigger or a tick: the latest pair goes into the traces where it is stored.
-fn sample(s: State, p: Sampled, one: &mut [u32], two: &mut [u32]) -> Happened
-    ensures { λ r. ⌜ Meets happenedOf (sampledIn p s (now (one .entry)) (now (two .entry)))
+fn sample(s: State, p: StorageStep, one: &mut [u32], two: &mut [u32]) -> EventEffect
+    ensures { λ r. ⌜ Meets eventEffect (sampledIn p s (now (one .entry)) (now (two .entry)))
         r (now (one .exit)) (now (two .exit)) [] [] ⌝ }
 {
     state::store(s, p, one, two);
-    Happened {
+    EventEffect {
         state: state::sampled(s, p),
         outcome: Outcome::Done,
     }
 }
 
 // What an event does to the state and to the traces.
-pub fn occur(s: State, e: Event, one: &mut [u32], two: &mut [u32]) -> Happened
-    ensures { λ r. ⌜ Meets happenedOf (eventOf e s (now (one .entry)) (now (two .entry)))
+pub fn occur(s: State, e: Event, one: &mut [u32], two: &mut [u32]) -> EventEffect
+    ensures { λ r. ⌜ Meets eventEffect (eventOf e s (now (one .entry)) (now (two .entry)))
         r (now (one .exit)) (now (two .exit)) [] [] ⌝ }
 {
     match e {
         Event::Latest(w, v) => new_pair(s, w, v),
         Event::Tick => sample(s, state::tick_of(s), one, two),
         Event::Trigger => sample(s, state::trigger_of(s), one, two),
-        Event::Measured(frequency) => Happened {
+        Event::Measured(frequency) => EventEffect {
             state: measured(s, frequency),
             outcome: Outcome::Done,
         },

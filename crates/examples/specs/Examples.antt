@@ -5,19 +5,19 @@ use Prim.Native.String.{String}
 use mathlib.Core.Path.{_≡_}
 use mathlib.Core.List.{List, [], _∷_, _++_}
 use lib.ListN.{length, replicate}
-use Rattle.divide.specs.Ascii.{bytes}
+use Rattle.split.specs.Ascii.{bytes}
 use Rattle.queue.specs.Queue.{gpib, lf}
 use Rattle.settings.specs.Table.{phas, freq, harm, oflt, srat, rowOf, startSettings, withValue}
 use Rattle.settings.specs.declared.Settings.{Settings}
 use Rattle.event.specs.declared.Event.the-variants.{Latest}
-use Rattle.refusal.specs.Answer.{numbersOf}
+use Rattle.outcome.specs.Answer.{numbersOf}
 use Rattle.module.specs.declared.Module.{Module}
-use Rattle.refusal.specs.declared.Numbers.{Numbers}
-use Rattle.lockin.specs.Start.{startOf}
+use Rattle.outcome.specs.declared.ReportNumbers.{ReportNumbers}
+use Rattle.lockin.specs.Start.{startCall}
 use Rattle.lockin.specs.Calls.{lineCall, eventCall}
-use Rattle.two_courses.specs.Model.{modelOf}
+use Rattle.extreme_courses.specs.Model.{modelOf}
 use Rattle.script.specs.Check.{checkOf}
-use Rattle.verdict.specs.Said.{Said, ok, no, said}
+use Rattle.verdict.specs.Numbers.{VerdictNumbers, ok, no, verdictNumbers}
 
 -- ---- the examples
 
@@ -40,15 +40,15 @@ pub data Example : Type 0 where
 -- what is seen of an example
 pub data Seen : Type 0 where
   -- of a line: its refusal, place and length, the settings after it and the reply bytes
-  answer : Numbers → (kept : Settings) (reply : List ℕ) → Seen
+  answer : ReportNumbers → (kept : Settings) (reply : List ℕ) → Seen
   -- of a script: `ok`, or `no` with line, place and refusal
-  verdict : Said → Seen
+  verdict : VerdictNumbers → Seen
 
 -- ---- what is seen, by the definitions that the public calls' contracts cite
 
 -- the module that each line starts from: GPIB, serial number 42, capacity 8
 abbrev pub fresh : Module
-fresh = startOf 42 gpib 8 8 .after
+fresh = startCall 42 gpib 8 8 .after
 
 -- its traces
 abbrev pub zeros : List ℕ
@@ -83,7 +83,7 @@ floatSeen word =
 unfoldable pub seenOf : Example → Seen
 seenOf (line text) = lineSeen fresh zeros zeros text
 seenOf (trcb m e) = floatSeen (wordOf m e)
-seenOf (script capacity first second) = verdict (said (checkOf (modelOf capacity) (bytes first ++ (10 ∷ bytes second))))
+seenOf (script capacity first second) = verdict (verdictNumbers (checkOf (modelOf capacity) (bytes first ++ (10 ∷ bytes second))))
 
 -- ---- what the table says
 

@@ -2,10 +2,10 @@
 use mathlib.Core.Bool.{true}
 use mathlib.Core.Path.{_≡_}
 use mathlib.Core.List.{[]}
-use Rattle.divide.specs.Ascii.{bytes}
-use Rattle.refusal.specs.declared.Refusal.the-variants.{NoReset}
-use Rattle.two_courses.specs.Model.{modelFits}
-use Rattle.two_courses.specs.declared.Model.{Model}
+use Rattle.split.specs.Ascii.{bytes}
+use Rattle.outcome.specs.declared.Refusal.the-variants.{NoReset}
+use Rattle.extreme_courses.specs.Model.{modelFits}
+use Rattle.extreme_courses.specs.declared.Model.{Model}
 use Rattle.script.specs.Check.{checkOf}
 use Rattle.verdict.specs.declared.Verdict.the-variants.{Fine, No}
 

@@ -4,22 +4,22 @@ use mathlib.Core.Bool.{Bool, true, false}
 use mathlib.Core.Path.{_≡_, refl, sym, ap, _∙_}
 use mathlib.Core.List.{List}
 use lib.ListN.{length}
-use Rattle.refusal.specs.declared.Refusal.the-variants.{NotAllowed, NoRoom}
-use Rattle.refusal.specs.declared.Outcome.the-variants.{Done}
+use Rattle.outcome.specs.declared.Refusal.the-variants.{NotAllowed, NoRoom}
+use Rattle.outcome.specs.declared.Outcome.the-variants.{Done}
 use Rattle.command.specs.declared.Kind.{Kind}
 use Rattle.state.specs.Storing.{storedIn}
 use Rattle.state.specs.declared.State.{State}
-use Rattle.allow.specs.Allows.{allowsOf}
-use Rattle.change.specs.Change.{stateAfter}
-use Rattle.reply.specs.declared.Sent.{Sent}
-use Rattle.reply.specs.Reply.{sentBytes}
-use Rattle.reply.specs.Parts.{Sends}
-use Rattle.reply.specs.After.{Meets}
-use Rattle.reply.proofs.Over.{sentBytes-length, sent-written}
-use Rattle.reply.proofs.After.{silent-meets}
-use Rattle.answer.specs.Reply.{replyOf}
+use Rattle.precondition.specs.Allowed.{isAllowed}
+use Rattle.effect.specs.Effect.{stateAfter}
+use Rattle.reply_buffer.specs.declared.Sent.{Sent}
+use Rattle.reply_buffer.specs.Buffer.{sentBytes}
+use Rattle.reply_buffer.specs.Parts.{Sends}
+use Rattle.reply_buffer.specs.After.{Meets}
+use Rattle.reply_buffer.proofs.Over.{sentBytes-length, sent-written}
+use Rattle.reply_buffer.proofs.After.{silent-meets}
+use Rattle.reply.specs.Reply.{replyOf}
 use Rattle.line.specs.Perform.{sampledBy, doneBy, performed}
-use Rattle.line.specs.Parts.{performedOf, refusedWith}
+use Rattle.line.specs.Parts.{commandResult, refusedWith}
 
 -- what is written fits the room
 pub written-fits : (bytes : List ℕ) {r : Sent} {new old : List ℕ} → Sends bytes r new old → r .written ≤ length old
@@ -28,17 +28,17 @@ written-fits bytes {old = old} sends =
 
 module _ (waiting : Bool) (kind : Kind) (s : State) (one two : List ℕ) where
   -- 3 refuses it
-  pub not-allowed : (old : List ℕ) → allowsOf (s .settings) (s .moving) kind ≡ false →
-      Meets performedOf (performed (length old) waiting kind s one two) (refusedWith NotAllowed s) one two old old
+  pub not-allowed : (old : List ℕ) → isAllowed (s .settings) (s .acquisition) kind ≡ false →
+      Meets commandResult (performed (length old) waiting kind s one two) (refusedWith NotAllowed s) one two old old
   unfolding performed
-  not-allowed old e = rw e (silent-meets performedOf _ _ one two old)
+  not-allowed old e = rw e (silent-meets commandResult _ _ one two old)
 
   module _ {r : Sent} {new old : List ℕ} (sends : Sends (replyOf kind s waiting one two) r new old)
-      (allowed : allowsOf (s .settings) (s .moving) kind ≡ true)
+      (allowed : isAllowed (s .settings) (s .acquisition) kind ≡ true)
     where
       -- 4 refuses it
       pub no-room : r .fits ≡ false →
-          Meets performedOf (performed (length old) waiting kind s one two) (refusedWith NoRoom s) one two new old
+          Meets commandResult (performed (length old) waiting kind s one two) (refusedWith NoRoom s) one two new old
       unfolding performed sentBytes
       no-room f =
           let fits = sym (ap (λ x. x .fits) (sends .sent)) ∙ f in
@@ -46,7 +46,7 @@ module _ (waiting : Bool) (kind : Kind) (s : State) (one two : List ℕ) where
 
       -- it is done
       pub done : r .fits ≡ true →
-          Meets performedOf (performed (length old) waiting kind s one two)
+          Meets commandResult (performed (length old) waiting kind s one two)
           (record { state = stateAfter kind s; written = r .written; outcome = Done })
           (storedIn (sampledBy kind s) s (s .latest .one) one) (storedIn (sampledBy kind s) s (s .latest .two) two)
           new old

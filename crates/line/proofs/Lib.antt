@@ -1,4 +1,4 @@
 -- Laws on commands and lines.
 pub mod Effects
 pub mod Steps
-pub mod Turns
+pub mod LoopStep

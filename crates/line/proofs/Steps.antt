@@ -7,14 +7,14 @@ use lib.Dec.{ltb}
 use lib.ListN.{length, take, drop, length-append, length-drop, drop-of-length-le}
 use lib.Seq.{take-all, length-take-le}
 use Rattle.command.specs.Parsed.{parsedOf}
-use Rattle.reply.specs.Reply.{over}
-use Rattle.reply.specs.After.{Meets}
-use Rattle.reply.proofs.Over.{over-more, over-take, over-drop}
-use Rattle.line.specs.declared.Performed.{Performed}
+use Rattle.reply_buffer.specs.Buffer.{overwrite}
+use Rattle.reply_buffer.specs.After.{Meets}
+use Rattle.reply_buffer.proofs.Over.{over-more, over-take, over-drop}
+use Rattle.line.specs.declared.CommandResult.{CommandResult}
 use Rattle.line.specs.declared.Progress.{Progress}
 use Rattle.line.specs.Perform.{Effect, commandOf}
-use Rattle.line.specs.Line.{afterOf, stepOf}
-use Rattle.line.specs.Parts.{performedOf, progressAfter, progressOf, lineAt}
+use Rattle.line.specs.Line.{afterOf, afterCommand}
+use Rattle.line.specs.Parts.{commandResult, progressAfter, progressOf, lineAt}
 
 -- the part of a room from a place on, and the room once that part came back as new
 abbrev pub part : List ℕ → ℕ → List ℕ
@@ -30,14 +30,14 @@ module _ (reply : List ℕ) (at : ℕ) (h : at ≤ length reply) where
   pub part-room : length (part reply at) ≡ length reply - length (take at reply)
   part-room = ap length part-whole ∙ length-drop at reply ∙ ap (λ n. length reply - n) (sym (length-take-le at reply h))
 
-  pub mended-over : (out new : List ℕ) → new ≡ over out (part reply at) →
-      mended reply at new ≡ over (take at reply ++ out) reply
+  pub mended-over : (out new : List ℕ) → new ≡ overwrite out (part reply at) →
+      mended reply at new ≡ overwrite (take at reply ++ out) reply
   mended-over out new e =
       let n : drop (length reply - at) (drop at reply) ≡ [] =
       drop-of-length-le (drop at reply) {i = length reply - at} (simp length-drop (omega arith)) in
       let k : length (take at reply) ≡ at = length-take-le at reply h in
       ap (λ l. take at reply ++ (new ++ l)) n
-      ∙ ap (λ l. take at reply ++ l) (append-nil new ∙ e ∙ ap (over out) (part-whole ∙ ap (λ i. drop i reply) (sym k)))
+      ∙ ap (λ l. take at reply ++ l) (append-nil new ∙ e ∙ ap (overwrite out) (part-whole ∙ ap (λ i. drop i reply) (sym k)))
       ∙ rw (over-take (take at reply) reply, over-drop (take at reply) reply) at (over-more (take at reply) out reply)
 
   pub part-fits : (new : List ℕ) (w : ℕ) → w ≤ length new → length new ≡ length (part reply at) →
@@ -48,12 +48,12 @@ module _ (reply : List ℕ) (at : ℕ) (h : at ≤ length reply) where
   mended-fits new w f = simp (length-append, length-take-le at reply h) (omega arith)
 
 -- one more command, done in the part of the room behind the bytes already written
-pub step-holds : (p q : Progress) (text one two one′ two′ reply new : List ℕ) (d : Performed) → p .at ≤ length reply →
-    Meets performedOf (commandOf (length (part reply (p .at))) (ltb 0 (p .at)) (parsedOf text) (p .state) one two)
+pub step-holds : (p q : Progress) (text one two one′ two′ reply new : List ℕ) (d : CommandResult) → p .at ≤ length reply →
+    Meets commandResult (commandOf (length (part reply (p .at))) (ltb 0 (p .at)) (parsedOf text) (p .state) one two)
     d one′ two′ new (part reply (p .at)) →
     q ≡ progressAfter p d →
-    Meets progressOf (stepOf (length reply) text (lineAt p one two reply)) q one′ two′ (mended reply (p .at) new) reply
-unfolding stepOf afterOf
+    Meets progressOf (afterCommand (length reply) text (lineAt p one two reply)) q one′ two′ (mended reply (p .at) new) reply
+unfolding afterCommand afterOf
 step-holds p q text one two one′ two′ reply new d h did e =
     let command : ℕ → ℕ → Effect = λ room n. commandOf room (ltb 0 n) (parsedOf text) (p .state) one two in
     let k : length (take (p .at) reply) ≡ p .at = length-take-le (p .at) reply h in

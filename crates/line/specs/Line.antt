@@ -4,14 +4,14 @@ use mathlib.Core.Bool.{Bool, false, cond}
 use mathlib.Core.List.{List, [], _∷_, _++_}
 use lib.Dec.{ltb}
 use lib.ListN.{length}
-use Rattle.clean.specs.Texts.{textsOf}
-use Rattle.refusal.specs.Answer.{firstOf, drops}
+use Rattle.line_text.specs.Texts.{textsOf}
+use Rattle.outcome.specs.Answer.{firstOf, drops}
 use Rattle.command.specs.Parsed.{parsedOf}
 use Rattle.state.specs.declared.State.{State}
-use Rattle.reply.specs.After.{After, silent}
+use Rattle.reply_buffer.specs.After.{After, silent}
 use Rattle.line.specs.Perform.{Effect, commandOf}
-use Rattle.refusal.specs.declared.Answer.{Answer}
-use Rattle.refusal.specs.declared.Answer.the-variants.{Passed}
+use Rattle.outcome.specs.declared.Answer.{Answer}
+use Rattle.outcome.specs.declared.Answer.the-variants.{Passed}
 
 -- what is known of a line on its way: the answer so far, how many commands there were, and whether the rest is dropped
 pub record Tally : Type 0 where
@@ -44,15 +44,15 @@ afterOf l e =
     }
 
 -- one more command, by its text, where `room` bytes are lent for the replies of the whole line
-unfoldable pub stepOf : ℕ → List ℕ → Line → Line
-stepOf room text l =
+unfoldable pub afterCommand : ℕ → List ℕ → Line → Line
+afterCommand room text l =
     afterOf l (commandOf (room - length (l .out)) (waits (l .out)) (parsedOf text) (l .after) (l .one) (l .two))
 
 -- the commands of these texts in turn, up to one that drops the rest
 unfoldable pub runAll : ℕ → List (List ℕ) → Line → Line
 runAll room [] l = l
 runAll room (text ∷ more) l =
-    let next = stepOf room text l in
+    let next = afterCommand room text l in
     cond (next .report .dropped) next (runAll room more next)
 
 -- a line before its first command

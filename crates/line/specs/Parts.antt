@@ -2,26 +2,26 @@
 use Prim.Native.Nat.{ℕ, _+_}
 use mathlib.Core.List.{List}
 use lib.ListN.{length, take}
-use Rattle.divide.specs.Divide.{parts}
-use Rattle.clean.specs.Clean.{lineLimit, cleaned}
-use Rattle.clean.specs.Texts.{semicolon}
-use Rattle.refusal.specs.declared.Refusal.{Refusal}
-use Rattle.refusal.specs.declared.Outcome.the-variants as outcome
-use Rattle.refusal.specs.Answer.{firstOf, drops}
-use Rattle.state.specs.State.{markedBy}
+use Rattle.split.specs.Divide.{parts}
+use Rattle.line_text.specs.Clean.{lineLimit, cleaned}
+use Rattle.line_text.specs.Texts.{semicolon}
+use Rattle.outcome.specs.declared.Refusal.{Refusal}
+use Rattle.outcome.specs.declared.Outcome.the-variants as outcome
+use Rattle.outcome.specs.Answer.{firstOf, drops}
+use Rattle.state.specs.State.{withErrorBit}
 use Rattle.state.specs.declared.State.{State}
 use Rattle.line.specs.Perform.{Effect}
 use Rattle.line.specs.Line.{Line}
-use Rattle.line.specs.declared.Performed.{Performed}
+use Rattle.line.specs.declared.CommandResult.{CommandResult}
 use Rattle.line.specs.declared.Progress.{Progress}
 
 -- what the code gives back for a command
-abbrev pub performedOf : Effect → Performed
-performedOf e = record { state = e .after; written = length (e .out); outcome = e .report }
+abbrev pub commandResult : Effect → CommandResult
+commandResult e = record { state = e .after; written = length (e .out); outcome = e .report }
 
 -- the code's answer for a refused command
-abbrev pub refusedWith : Refusal → State → Performed
-refusedWith r s = record { state = markedBy r s; written = 0; outcome = outcome.Refused r }
+abbrev pub refusedWith : Refusal → State → CommandResult
+refusedWith r s = record { state = withErrorBit r s; written = 0; outcome = outcome.Refused r }
 
 -- the commands that the code runs of a line of any length: those among its first bytes that count, as many as a line
 -- may have, which are all where the line is not too long
@@ -29,7 +29,7 @@ abbrev pub textsRun : List ℕ → List (List ℕ)
 textsRun line = parts semicolon (take lineLimit (cleaned line))
 
 -- the code's progress after one more command
-abbrev pub progressAfter : Progress → Performed → Progress
+abbrev pub progressAfter : Progress → CommandResult → Progress
 progressAfter p d =
     record {
       state = d .state;

@@ -2,22 +2,22 @@
 use Prim.Native.Nat.{ℕ}
 use mathlib.Core.Bool.{Bool, cond}
 use mathlib.Core.List.{List}
-use Rattle.refusal.specs.declared.Refusal.{Refusal}
-use Rattle.refusal.specs.declared.Refusal.the-variants.{NotAllowed, NoRoom}
-use Rattle.refusal.specs.declared.Outcome.{Outcome}
-use Rattle.refusal.specs.declared.Outcome.the-variants as outcome
+use Rattle.outcome.specs.declared.Refusal.{Refusal}
+use Rattle.outcome.specs.declared.Refusal.the-variants.{NotAllowed, NoRoom}
+use Rattle.outcome.specs.declared.Outcome.{Outcome}
+use Rattle.outcome.specs.declared.Outcome.the-variants as outcome
 use Rattle.command.specs.declared.Kind.{Kind}
 use Rattle.command.specs.declared.Parsed.{Parsed}
 use Rattle.command.specs.declared.Parsed.the-variants.{Empty, Taken, Refused}
-use Rattle.storage.specs.declared.Sampled.{Sampled}
-use Rattle.state.specs.State.{markedBy}
+use Rattle.storage.specs.declared.StorageStep.{StorageStep}
+use Rattle.state.specs.State.{withErrorBit}
 use Rattle.state.specs.Storing.{storedIn}
 use Rattle.state.specs.declared.State.{State}
-use Rattle.allow.specs.Allows.{allowsOf}
-use Rattle.change.specs.Change.{storageAfter, stateAfter}
-use Rattle.reply.specs.Reply.{fitsIn}
-use Rattle.reply.specs.After.{After, silent}
-use Rattle.answer.specs.Reply.{replyOf}
+use Rattle.precondition.specs.Allowed.{isAllowed}
+use Rattle.effect.specs.Effect.{storageAfter, stateAfter}
+use Rattle.reply_buffer.specs.Buffer.{fitsIn}
+use Rattle.reply_buffer.specs.After.{After, silent}
+use Rattle.reply.specs.Reply.{replyOf}
 
 -- what a command leaves, and whether it was refused
 abbrev pub Effect : Type 0
@@ -25,15 +25,15 @@ Effect = After State Outcome
 
 -- a refused command: its error bit, and nothing else
 abbrev pub refusedBy : Refusal → State → List ℕ → List ℕ → Effect
-refusedBy r s one two = silent (outcome.Refused r) (markedBy r s) one two
+refusedBy r s one two = silent (outcome.Refused r) (withErrorBit r s) one two
 
 -- an empty command: "empty ones do nothing"
 abbrev pub nothing : State → List ℕ → List ℕ → Effect
 nothing s one two = silent outcome.Done s one two
 
 -- what a command does to storage
-abbrev pub sampledBy : Kind → State → Sampled
-sampledBy kind s = storageAfter kind (s .settings) (s .moving) (s .unit .capacity)
+abbrev pub sampledBy : Kind → State → StorageStep
+sampledBy kind s = storageAfter kind (s .settings) (s .acquisition) (s .installation .capacity)
 
 -- a command that is not refused
 unfoldable pub doneBy : Kind → List ℕ → State → List ℕ → List ℕ → Effect
@@ -50,7 +50,7 @@ doneBy kind reply s one two =
 unfoldable pub performed : ℕ → Bool → Kind → State → List ℕ → List ℕ → Effect
 performed room waiting kind s one two =
     let reply = replyOf kind s waiting one two in
-    cond (allowsOf (s .settings) (s .moving) kind)
+    cond (isAllowed (s .settings) (s .acquisition) kind)
     (cond (fitsIn reply room) (doneBy kind reply s one two) (refusedBy NoRoom s one two))
     (refusedBy NotAllowed s one two)
 

@@ -2,22 +2,22 @@
 ghost use mathlib.Core.Path.{_≡_};
 ghost use Prim.Native.Nat.{_+_, _≤_, _<_};
 ghost use lib.ListN.{length};
-ghost use Rattle.divide.specs.Divide.{parts};
+ghost use Rattle.split.specs.Divide.{parts};
 ghost use Rattle.command.specs.Parsed.{parsedOf};
 ghost use Rattle.line.specs.Perform.{performed, commandOf};
-ghost use Rattle.line.specs.Line.{stepOf, runAll, startLine};
-ghost use Rattle.line.specs.Parts.{performedOf, refusedWith, textsRun, progressAfter, progressOf, lineAt};
-ghost use Rattle.clean.specs.Texts.{semicolon};
-ghost use Rattle.reply.specs.After.{Meets};
+ghost use Rattle.line.specs.Line.{afterCommand, runAll, startLine};
+ghost use Rattle.line.specs.Parts.{commandResult, refusedWith, textsRun, progressAfter, progressOf, lineAt};
+ghost use Rattle.line_text.specs.Texts.{semicolon};
+ghost use Rattle.reply_buffer.specs.After.{Meets};
 use command::Command;
 use command::Parsed;
-use refusal::Answer;
-use refusal::Outcome;
-use refusal::Refusal;
+use outcome::Answer;
+use outcome::Outcome;
+use outcome::Refusal;
 use state::State;
 
 // What one command leaves: the state, the number of reply bytes written, and whether it was refused.
-pub struct Performed {
+pub struct CommandResult {
     pub state: State,
     pub written: usize,
     pub outcome: Outcome,
@@ -34,11 +34,11 @@ pub struct Progress {
 }
 
 // A refused command: its error bit is set, and nothing else.
-fn refused(s: State, refusal: Refusal) -> Performed
+fn refused(s: State, refusal: Refusal) -> CommandResult
     ensures { λ r. ⌜ r ≡ refusedWith refusal s ⌝ }
 {
-    Performed {
-        state: state::marked(s, refusal),
+    CommandResult {
+        state: state::with_error_bit(s, refusal),
         written: 0,
         outcome: Outcome::Refused(refusal),
     }
@@ -52,24 +52,24 @@ fn perform(
     one: &mut [u32],
     two: &mut [u32],
     out: &mut [u8],
-) -> Performed
-    ensures { λ r. ⌜ Meets performedOf
+) -> CommandResult
+    ensures { λ r. ⌜ Meets commandResult
         (performed (length (now (out .entry))) waiting (c .kind) s (now (one .entry)) (now (two .entry)))
         r (now (one .exit)) (now (two .exit)) (now (out .exit)) (now (out .entry)) ⌝ }
     ensures { λ r. ⌜ r .written ≤ length (now (out .exit)) ⌝ }
 {
     let kind = c.kind;
-    let moving = s.moving;
-    let allowed = allow::allows(s.settings, moving, kind);
+    let acquisition = s.acquisition;
+    let allowed = precondition::is_allowed(s.settings, acquisition, kind);
     if allowed {
-        let sent = answer::send_reply(s, kind, waiting, &one[..], &two[..], out);
+        let sent = reply::send_reply(s, kind, waiting, &one[..], &two[..], out);
         let fits = sent.fits;
         if fits {
-            let unit = s.unit;
-            let p = change::storage_after(s.settings, moving, unit.capacity, kind);
+            let installation = s.installation;
+            let p = effect::storage_after(s.settings, acquisition, installation.capacity, kind);
             state::store(s, p, one, two);
-            return Performed {
-                state: change::state_after(s, kind, p),
+            return CommandResult {
+                state: effect::state_after(s, kind, p),
                 written: sent.written,
                 outcome: Outcome::Done,
             };
@@ -87,8 +87,8 @@ fn take_command(
     one: &mut [u32],
     two: &mut [u32],
     out: &mut [u8],
-) -> Performed
-    ensures { λ r. ⌜ Meets performedOf
+) -> CommandResult
+    ensures { λ r. ⌜ Meets commandResult
         (commandOf (length (now (out .entry))) waiting (parsedOf (now (text .entry)))
         s (now (one .entry)) (now (two .entry)))
         r (now (one .exit)) (now (two .exit)) (now (out .exit)) (now (out .entry)) ⌝ }
@@ -96,7 +96,7 @@ fn take_command(
 {
     let parsed = command::parse(text);
     match parsed {
-        Parsed::Empty => Performed {
+        Parsed::Empty => CommandResult {
             state: s,
             written: 0,
             outcome: Outcome::Done,
@@ -107,7 +107,7 @@ fn take_command(
 }
 
 // The line after one more command.
-fn after(p: Progress, d: Performed) -> Progress
+fn after(p: Progress, d: CommandResult) -> Progress
     requires { ⌜ (p .at + d .written < 9223372036854775808) × (p .count < 1000) ⌝ }
     ensures { λ r. ⌜ r ≡ progressAfter p d ⌝ }
 {
@@ -118,9 +118,9 @@ fn after(p: Progress, d: Performed) -> Progress
     Progress {
         state,
         at: p.at + d.written,
-        answer: refusal::first_of(answer, outcome, count),
+        answer: outcome::first_of(answer, outcome, count),
         count,
-        dropped: refusal::drops(outcome),
+        dropped: outcome::drops(outcome),
     }
 }
 
@@ -128,7 +128,7 @@ fn after(p: Progress, d: Performed) -> Progress
 fn step(p: Progress, text: &[u8], one: &mut [u32], two: &mut [u32], reply: &mut [u8]) -> Progress
     requires { ⌜ (p .at ≤ length (now reply)) × (p .count < 1000) ⌝ }
     ensures { λ r. ⌜ Meets progressOf
-        (stepOf (length (now (reply .entry))) (now (text .entry))
+        (afterCommand (length (now (reply .entry))) (now (text .entry))
         (lineAt p (now (one .entry)) (now (two .entry)) (now (reply .entry))))
         r (now (one .exit)) (now (two .exit)) (now (reply .exit)) (now (reply .entry)) ⌝ }
     ensures { λ r. ⌜ (p .at ≤ r .at) × (r .at ≤ length (now (reply .exit))) × (r .count ≡ p .count + 1) ⌝ }
@@ -156,7 +156,7 @@ fn run(s: State, text: &[u8], one: &mut [u32], two: &mut [u32], reply: &mut [u8]
     };
     let mut a = 0;
     loop {
-        let e = divide::end_of(text, b';', a);
+        let e = split::end_of(text, b';', a);
         let next = step(p, &text[a..e], one, two, reply);
         p = next;
         let dropped = p.dropped;
@@ -183,7 +183,7 @@ pub fn run_line(
         (startLine s (now (one .entry)) (now (two .entry))))
         r (now (one .exit)) (now (two .exit)) (now (reply .exit)) (now (reply .entry)) ⌝ }
 {
-    let c = clean::clean(line);
+    let c = line_text::clean(line);
     let bytes = c.bytes;
     let len = c.len;
     run(s, &bytes[0..len], one, two, reply)

@@ -8,47 +8,47 @@ use lib.Dec.{leb, ltb}
 use lib.ListN.{length, take, set, length-set}
 use lib.Seq.{take-all}
 use borrow.Author.Tests.{leb-true, leb-false}
-use Rattle.refusal.specs.declared.Refusal.{Refusal}
-use Rattle.refusal.specs.declared.Outcome.{Outcome}
-use Rattle.refusal.specs.declared.Outcome.the-variants as outcome
-use Rattle.refusal.specs.declared.Told.{Told}
-use Rattle.refusal.specs.Meaning.{numberOf}
-use Rattle.refusal.specs.Answer.{numbersOf}
+use Rattle.outcome.specs.declared.Refusal.{Refusal}
+use Rattle.outcome.specs.declared.Outcome.{Outcome}
+use Rattle.outcome.specs.declared.Outcome.the-variants as outcome
+use Rattle.outcome.specs.declared.Report.{Report}
+use Rattle.outcome.specs.Code.{numberOf}
+use Rattle.outcome.specs.Answer.{numbersOf}
 use Rattle.state.specs.declared.State.{State}
 use Rattle.queue.specs.Queue.{lineLimit}
 use Rattle.queue.specs.Parts.{queueOf, storedIn}
 use Rattle.queue.specs.declared.Queue.{Queue}
 use Rattle.queue.specs.declared.QueueStep.{QueueStep}
-use Rattle.queue.specs.declared.Ended.{Ended}
-use Rattle.reply.specs.After.{After, Meets}
-use Rattle.event.specs.Event.{happenedOf, eventOf}
+use Rattle.queue.specs.declared.LineEnd.{LineEnd}
+use Rattle.reply_buffer.specs.After.{After, Meets}
+use Rattle.event.specs.Event.{eventEffect, eventOf}
 use Rattle.event.specs.declared.Event.{Event}
-use Rattle.event.specs.declared.Happened.{Happened}
+use Rattle.event.specs.declared.EventEffect.{EventEffect}
 use Rattle.module.specs.Module.{guardOf}
 use Rattle.module.specs.declared.Module.{Module}
-use Rattle.lockin.specs.Calls.{Call, calledOf, takenOf, withQueue, guarded, refusedWhole, lineEnd, wholeEnd}
-use Rattle.lockin.specs.Calls.{wholeLine, lineCall, fedCall, fedByte, byteCall, eventCall}
+use Rattle.lockin.specs.Calls.{Call, lineResult, eventResult, withQueue, guarded, refusedWhole, lineEnd, wholeEnd}
+use Rattle.lockin.specs.Calls.{wholeLine, lineCall, receivedCall, byteReceived, byteCall, eventCall}
 use Rattle.lockin.specs.Parts.{resultOf, GuardedStep}
 use Rattle.lockin.specs.declared.StateResult.{StateResult}
-use Rattle.lockin.specs.declared.Called.{Called}
-use Rattle.lockin.specs.declared.Taken.{Taken}
+use Rattle.lockin.specs.declared.LineResult.{LineResult}
+use Rattle.lockin.specs.declared.EventResult.{EventResult}
 
 -- ---- what the code gives back of a call
 
 -- by what its step on the state gave back, and the queue after it
-abbrev calledWith : Queue → StateResult → Called
-calledWith q r = record { after = record { queue = q; state = r .state }; told = r .told }
+abbrev calledWith : Queue → StateResult → LineResult
+calledWith q r = record { after = record { queue = q; state = r .state }; report = r .report }
 
 -- what `lockin::take_line` and `lockin::take_byte` promise of a call
-abbrev Answers : Call → Called → List ℕ → List ℕ → List ℕ → List ℕ → Type 0
-Answers c r one two new old = Meets calledOf c r one two new old × (numbersOf (r .told) ≡ numbersOf (c .report))
+abbrev Answers : Call → LineResult → List ℕ → List ℕ → List ℕ → List ℕ → Type 0
+Answers c r one two new old = Meets lineResult c r one two new old × (numbersOf (r .report) ≡ numbersOf (c .report))
 
-answers : (q : Queue) {step : After State Told} {r : StateResult} {one two new old : List ℕ} →
+answers : (q : Queue) {step : After State Report} {r : StateResult} {one two new old : List ℕ} →
     Meets resultOf step r one two new old → Answers (withQueue q step) (calledWith q r) one two new old
 answers q h =
-    let told = ap (λ r. r .told) (h .result) in (
+    let report = ap (λ r. r .report) (h .result) in (
       record { result = rw (h .result); first = h .first; second = h .second; reply = h .reply },
-      ap numbersOf told,
+      ap numbersOf report,
     )
 
 -- a call that keeps its queue, as a step on the state
@@ -96,7 +96,7 @@ whole-end room text s one two = by (leb (length text) 256) refl where
   by false e = rw e
 
 -- the code's parts, each as its function says, answer as the line's call does
-pub line-answers : (room : ℕ) (text : List ℕ) (m : Module) (one two : List ℕ) {o : Outcome} {e : Ended} {end : ℕ}
+pub line-answers : (room : ℕ) (text : List ℕ) (m : Module) (one two : List ℕ) {o : Outcome} {e : LineEnd} {end : ℕ}
     {r : StateResult} {one′ two′ new old : List ℕ} →
     o ≡ guardOf m (length one) (length two) → e ≡ wholeEnd (length text) → end ≡ min (length text) 256 →
     Meets resultOf (guarded refusedWhole o (lineEnd e room (take end text) (m .state) one two) (m .state) one two)
@@ -115,27 +115,27 @@ module _ (room b : ℕ) (mark : Bool) (m : Module) (one two : List ℕ) (step : 
   stored = storedIn (step .stores) (m .queue .len) b (m .queue .bytes)
 
   abbrev queued : Queue
-  queued = queueOf stored (step .len) (step .dropping)
+  queued = queueOf stored (step .len) (step .discarding)
 
   guarded-byte : (o : Outcome) →
-      GuardedStep o (m .queue .len) (m .queue .dropping) (m .state .unit .port) b mark step →
-      let end = lineEnd (step .ended) room (take (step .line) stored) (m .state) one two in
-      guarded refusedWhole o (fedByte room b mark m one two) m one two
+      GuardedStep o (m .queue .len) (m .queue .discarding) (m .state .installation .port) b mark step →
+      let end = lineEnd (step .ending) room (take (step .line) stored) (m .state) one two in
+      guarded refusedWhole o (byteReceived room b mark m one two) m one two
       ≡ withQueue queued (guarded refusedWhole o end (m .state) one two)
-  unfolding guarded GuardedStep fedByte fedCall
-  guarded-byte outcome.Done g = rw (g .fed (m .queue .bytes), g .run stored)
+  unfolding guarded GuardedStep byteReceived receivedCall
+  guarded-byte outcome.Done g = rw (g .received (m .queue .bytes), g .run stored)
   guarded-byte (outcome.Refused r) g = rw g
 
 -- the code's parts, each as its function says, answer as the byte's call does
 pub byte-answers : (room b : ℕ) (mark : Bool) (m : Module) (one two : List ℕ) (step : QueueStep) {o : Outcome}
     {bytes : List ℕ} {end : ℕ} {r : StateResult} {one′ two′ new old : List ℕ} → length (m .queue .bytes) ≡ 256 →
     o ≡ guardOf m (length one) (length two) →
-    GuardedStep o (m .queue .len) (m .queue .dropping) (m .state .unit .port) b mark step →
+    GuardedStep o (m .queue .len) (m .queue .discarding) (m .state .installation .port) b mark step →
     bytes ≡ storedIn (step .stores) (m .queue .len) b (m .queue .bytes) → end ≡ min (step .line) 256 →
     Meets resultOf
-    (guarded refusedWhole o (lineEnd (step .ended) room (take end bytes) (m .state) one two) (m .state) one two)
+    (guarded refusedWhole o (lineEnd (step .ending) room (take end bytes) (m .state) one two) (m .state) one two)
     r one′ two′ new old →
-    Answers (byteCall room b mark m one two) (calledWith (queueOf bytes (step .len) (step .dropping)) r)
+    Answers (byteCall room b mark m one two) (calledWith (queueOf bytes (step .len) (step .discarding)) r)
     one′ two′ new old
 unfolding byteCall
 byte-answers room b mark m one two step {o = o} {bytes = bytes} long guard stepped stored end h =
@@ -143,21 +143,21 @@ byte-answers room b mark m one two step {o = o} {bytes = bytes} long guard stepp
     let many : length bytes ≡ 256 = rw stored same ∙ long in
     let text = within bytes (step .line) (omega arith) in
     rw (← guard, guarded-byte room b mark m one two step o stepped, ← stored)
-    (answers (queueOf bytes (step .len) (step .dropping)) (rw (end, text) at h))
+    (answers (queueOf bytes (step .len) (step .discarding)) (rw (end, text) at h))
 
 -- ---- an event
 
 -- the code's parts, each as its function says, are what the event's call is
-pub event-answers : (e : Event) (m : Module) (one two : List ℕ) {o : Outcome} {h : Happened} {one′ two′ : List ℕ} →
+pub event-answers : (e : Event) (m : Module) (one two : List ℕ) {o : Outcome} {h : EventEffect} {one′ two′ : List ℕ} →
     o ≡ guardOf m (length one) (length two) →
-    Meets happenedOf (guarded outcome.Refused o (eventOf e (m .state) one two) (m .state) one two) h one′ two′ [] [] →
-    let taken : Taken = record { after = record { queue = m .queue; state = h .state }; outcome = h .outcome } in
-    Meets takenOf (eventCall e m one two) taken one′ two′ [] []
+    Meets eventEffect (guarded outcome.Refused o (eventOf e (m .state) one two) (m .state) one two) h one′ two′ [] [] →
+    let taken : EventResult = record { after = record { queue = m .queue; state = h .state }; outcome = h .outcome } in
+    Meets eventResult (eventCall e m one two) taken one′ two′ [] []
     × (numberOf (h .outcome) ≡ numberOf (eventCall e m one two .report))
 unfolding eventCall
 event-answers e m one two {o = o} guard h =
-    let told = ap (λ r. r .outcome) (h .result) in
+    let report = ap (λ r. r .outcome) (h .result) in
     rw (← guard, guarded-queue outcome.Refused o _ m one two) (
       record { result = rw (h .result); first = h .first; second = h .second; reply = h .reply },
-      ap numberOf told,
+      ap numberOf report,
     )

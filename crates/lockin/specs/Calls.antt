@@ -5,42 +5,42 @@ use mathlib.Core.Bool.{Bool, cond}
 use mathlib.Core.List.{List}
 use lib.Dec.{leb}
 use lib.ListN.{length}
-use Rattle.refusal.specs.declared.Refusal.{Refusal}
-use Rattle.refusal.specs.declared.Refusal.the-variants.{LongLine, BadState}
-use Rattle.refusal.specs.declared.Outcome.{Outcome}
-use Rattle.refusal.specs.declared.Outcome.the-variants as outcome
-use Rattle.refusal.specs.declared.Answer.the-variants as answer
-use Rattle.refusal.specs.declared.Told.{Told}
-use Rattle.refusal.specs.Answer.{toldOf}
-use Rattle.state.specs.State.{markedBy}
+use Rattle.outcome.specs.declared.Refusal.{Refusal}
+use Rattle.outcome.specs.declared.Refusal.the-variants.{LongLine, BadState}
+use Rattle.outcome.specs.declared.Outcome.{Outcome}
+use Rattle.outcome.specs.declared.Outcome.the-variants as outcome
+use Rattle.outcome.specs.declared.Answer.the-variants as answer
+use Rattle.outcome.specs.declared.Report.{Report}
+use Rattle.outcome.specs.Answer.{reportOf}
+use Rattle.state.specs.State.{withErrorBit}
 use Rattle.state.specs.declared.State.{State}
 use Rattle.queue.specs.Queue as queue
 use Rattle.queue.specs.declared.Queue.{Queue}
-use Rattle.queue.specs.declared.Ended.{Ended}
-use Rattle.queue.specs.declared.Ended.the-variants as ended
-use Rattle.reply.specs.After.{After, silent}
+use Rattle.queue.specs.declared.LineEnd.{LineEnd}
+use Rattle.queue.specs.declared.LineEnd.the-variants as ending
+use Rattle.reply_buffer.specs.After.{After, silent}
 use Rattle.line.specs.Line.{Line, lineOf}
 use Rattle.event.specs.Event.{eventOf}
 use Rattle.event.specs.declared.Event.{Event}
-use Rattle.module.specs.Module.{allowedModule, guardOf, statusBetween}
+use Rattle.module.specs.Module.{validModule, guardOf, statusBetween}
 use Rattle.module.specs.declared.Module.{Module}
-use Rattle.lockin.specs.declared.Called.{Called}
-use Rattle.lockin.specs.declared.Taken.{Taken}
-use Rattle.lockin.specs.declared.Polled.{Polled}
+use Rattle.lockin.specs.declared.LineResult.{LineResult}
+use Rattle.lockin.specs.declared.EventResult.{EventResult}
+use Rattle.lockin.specs.declared.PollResult.{PollResult}
 
 -- what a call with a line or a byte leaves, and what the code gives back of it
 abbrev pub Call : Type 0
-Call = After Module Told
+Call = After Module Report
 
-abbrev pub calledOf : Call → Called
-calledOf c = record { after = c .after; told = c .report }
+abbrev pub lineResult : Call → LineResult
+lineResult c = record { after = c .after; report = c .report }
 
 -- what a call with an event leaves, and what the code gives back of it
 abbrev pub EventCall : Type 0
 EventCall = After Module Outcome
 
-abbrev pub takenOf : EventCall → Taken
-takenOf c = record { after = c .after; outcome = c .report }
+abbrev pub eventResult : EventCall → EventResult
+eventResult c = record { after = c .after; outcome = c .report }
 
 -- a step on the state of a module, and the queue after it
 abbrev pub withQueue : {R : Type 0} → Queue → After State R → After Module R
@@ -61,37 +61,37 @@ guarded report (outcome.Refused r) step s one two = silent (report r) s one two
 -- ---- lines and bytes
 
 -- what is reported where no command of a line has its turn: place 0, length 0
-abbrev pub refusedWhole : Refusal → Told
-refusedWhole r = toldOf (answer.Refused r 0) 0
+abbrev pub refusedWhole : Refusal → Report
+refusedWhole r = reportOf (answer.Refused r 0) 0
 
 -- the length told of a line: under 4 "the line's length told as 0"
-abbrev pub lengthTold : Line → ℕ
-lengthTold l = cond (l .report .dropped) 0 (length (l .out))
+abbrev pub reportedLength : Line → ℕ
+reportedLength l = cond (l .report .dropped) 0 (length (l .out))
 
 -- a line that ran
-abbrev pub lineRan : Line → After State Told
+abbrev pub lineRan : Line → After State Report
 lineRan l =
     record {
       after = l .after;
       one = l .one;
       two = l .two;
       out = l .out;
-      report = toldOf (l .report .answer) (lengthTold l);
+      report = reportOf (l .report .answer) (reportedLength l);
     }
 
 -- 5: "line over 256 bytes": "INP set"
-abbrev pub longLine : State → List ℕ → List ℕ → After State Told
-longLine s one two = silent (refusedWhole LongLine) (markedBy LongLine s) one two
+abbrev pub longLine : State → List ℕ → List ℕ → After State Report
+longLine s one two = silent (refusedWhole LongLine) (withErrorBit LongLine s) one two
 
 -- what comes of a line's end, where the line is `text`, of a line too long, or of neither
-unfoldable pub lineEnd : Ended → ℕ → List ℕ → State → List ℕ → List ℕ → After State Told
-lineEnd ended.Nothing room text s one two = silent (toldOf answer.Passed 0) s one two
-lineEnd ended.Line room text s one two = lineRan (lineOf room text s one two)
-lineEnd ended.TooLong room text s one two = longLine s one two
+unfoldable pub lineEnd : LineEnd → ℕ → List ℕ → State → List ℕ → List ℕ → After State Report
+lineEnd ending.Nothing room text s one two = silent (reportOf answer.Passed 0) s one two
+lineEnd ending.Line room text s one two = lineRan (lineOf room text s one two)
+lineEnd ending.TooLong room text s one two = longLine s one two
 
 -- a line handed over whole, by its length
-unfoldable pub wholeEnd : ℕ → Ended
-wholeEnd len = cond (leb len queue.lineLimit) ended.Line ended.TooLong
+unfoldable pub wholeEnd : ℕ → LineEnd
+wholeEnd len = cond (leb len queue.lineLimit) ending.Line ending.TooLong
 
 -- "A line handed over whole uses no queue; too long, it is 5 and only sets INP."
 unfoldable pub wholeLine : ℕ → List ℕ → Module → List ℕ → List ℕ → Call
@@ -105,19 +105,19 @@ lineCall room line m one two =
 
 -- what comes of a byte that left this queue: nothing ends, or the line that waits ends, runs and leaves the queue
 -- empty, or it is too long
-unfoldable pub fedCall : Ended → Queue → ℕ → Module → List ℕ → List ℕ → Call
-fedCall e q room m one two = withQueue (queue.afterRun e q) (lineEnd e room (queue.waitingBytes q) (m .state) one two)
+unfoldable pub receivedCall : LineEnd → Queue → ℕ → Module → List ℕ → List ℕ → Call
+receivedCall e q room m one two = withQueue (queue.afterRun e q) (lineEnd e room (queue.waitingBytes q) (m .state) one two)
 
 -- a byte with its end mark
-unfoldable pub fedByte : ℕ → ℕ → Bool → Module → List ℕ → List ℕ → Call
-fedByte room b mark m one two =
-    let fed = queue.fedOf (m .queue) (m .state .unit .port) b mark in
-    fedCall (fed .ended) (fed .queue) room m one two
+unfoldable pub byteReceived : ℕ → ℕ → Bool → Module → List ℕ → List ℕ → Call
+byteReceived room b mark m one two =
+    let received = queue.receivedOf (m .queue) (m .state .installation .port) b mark in
+    receivedCall (received .ending) (received .queue) room m one two
 
 -- a call with a byte
 unfoldable pub byteCall : ℕ → ℕ → Bool → Module → List ℕ → List ℕ → Call
 byteCall room b mark m one two =
-    guarded refusedWhole (guardOf m (length one) (length two)) (fedByte room b mark m one two) m one two
+    guarded refusedWhole (guardOf m (length one) (length two)) (byteReceived room b mark m one two) m one two
 
 -- ---- events and the serial poll
 
@@ -129,8 +129,8 @@ eventCall e m one two =
 
 -- a serial poll: the status byte between lines, told as 0 under 11, "a state outside the ranges, steps and limits
 -- above"
-unfoldable pub pollOf : Module → Polled
-pollOf m =
-    cond (allowedModule m)
+unfoldable pub pollCall : Module → PollResult
+pollCall m =
+    cond (validModule m)
     (record { status = statusBetween (m .state); outcome = outcome.Done })
     (record { status = 0; outcome = outcome.Refused BadState })

@@ -2,15 +2,15 @@
 use Prim.Native.Nat.{ℕ}
 use mathlib.Core.Bool.{Bool, false, cond}
 use mathlib.Core.Path.{_≡_}
-use Rattle.refusal.specs.declared.Outcome.{Outcome}
-use Rattle.refusal.specs.declared.Outcome.the-variants as outcome
-use Rattle.refusal.specs.declared.Told.{Told}
+use Rattle.outcome.specs.declared.Outcome.{Outcome}
+use Rattle.outcome.specs.declared.Outcome.the-variants as outcome
+use Rattle.outcome.specs.declared.Report.{Report}
 use Rattle.state.specs.declared.State.{State}
-use Rattle.queue.specs.Queue.{fedOf}
-use Rattle.queue.specs.Parts.{queueOf, Tells}
+use Rattle.queue.specs.Queue.{receivedOf}
+use Rattle.queue.specs.Parts.{queueOf, Describes}
 use Rattle.queue.specs.declared.QueueStep.{QueueStep}
-use Rattle.queue.specs.declared.Ended.the-variants as ended
-use Rattle.reply.specs.After.{After}
+use Rattle.queue.specs.declared.LineEnd.the-variants as ending
+use Rattle.reply_buffer.specs.After.{After}
 use Rattle.line.specs.declared.Progress.{Progress}
 use Rattle.lockin.specs.declared.StateResult.{StateResult}
 
@@ -19,12 +19,12 @@ abbrev pub lengthOf : Progress → ℕ
 lengthOf p = cond (p .dropped) 0 (p .at)
 
 -- what the code gives back of a line's end
-abbrev pub resultOf : After State Told → StateResult
-resultOf step = record { state = step .after; told = step .report }
+abbrev pub resultOf : After State Report → StateResult
+resultOf step = record { state = step .after; report = step .report }
 
 -- what a byte does to the queue's numbers: nothing where it is refused
 unfoldable pub GuardedStep : Outcome → ℕ → Bool → ℕ → ℕ → Bool → QueueStep → Type 0
-GuardedStep outcome.Done len dropping port b mark r =
-    Tells (λ bytes. fedOf (queueOf bytes len dropping) port b mark) len b r
-GuardedStep (outcome.Refused x) len dropping port b mark r =
-    r ≡ record { stores = false; line = len; len = len; dropping = dropping; ended = ended.Nothing }
+GuardedStep outcome.Done len discarding port b mark r =
+    Describes (λ bytes. receivedOf (queueOf bytes len discarding) port b mark) len b r
+GuardedStep (outcome.Refused x) len discarding port b mark r =
+    r ≡ record { stores = false; line = len; len = len; discarding = discarding; ending = ending.Nothing }

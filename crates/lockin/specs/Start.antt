@@ -1,25 +1,25 @@
 -- The start: document 01, refusals 10 and 9, and the module of a refused start.
 use Prim.Native.Nat.{ℕ}
 use mathlib.Core.Bool.{cond}
-use Rattle.refusal.specs.declared.Refusal.{Refusal}
-use Rattle.refusal.specs.declared.Refusal.the-variants.{BadTraces, BadStart}
-use Rattle.refusal.specs.declared.Outcome.the-variants.{Done, Refused}
-use Rattle.state.specs.State.{unitOf}
+use Rattle.outcome.specs.declared.Refusal.{Refusal}
+use Rattle.outcome.specs.declared.Refusal.the-variants.{BadTraces, BadStart}
+use Rattle.outcome.specs.declared.Outcome.the-variants.{Done, Refused}
+use Rattle.state.specs.State.{installationOf}
 use Rattle.settings.specs.Limits.{capacityLeast}
 use Rattle.queue.specs.Queue.{gpib}
-use Rattle.module.specs.Start.{unitKnown, tracesFit, freshModule}
-use Rattle.lockin.specs.declared.Started.{Started}
+use Rattle.module.specs.Start.{installationKnown, tracesFit, freshModule}
+use Rattle.lockin.specs.declared.StartResult.{StartResult}
 
 -- "a start refused by 10 or 9 gives serial 0, GPIB, capacity 1"
-abbrev pub refusedStart : Refusal → Started
+abbrev pub refusedStart : Refusal → StartResult
 refusedStart r =
-    record { after = freshModule (unitOf 0 gpib capacityLeast); outcome = Refused r }
+    record { after = freshModule (installationOf 0 gpib capacityLeast); outcome = Refused r }
 
 -- "Order: 10, .., 9"; the traces are not written
-unfoldable pub startOf : ℕ → ℕ → ℕ → ℕ → Started
-startOf serial port first second =
-    cond (unitKnown serial port)
+unfoldable pub startCall : ℕ → ℕ → ℕ → ℕ → StartResult
+startCall serial port first second =
+    cond (installationKnown serial port)
     (cond (tracesFit first second)
-    (record { after = freshModule (unitOf serial port first); outcome = Done })
+    (record { after = freshModule (installationOf serial port first); outcome = Done })
     (refusedStart BadTraces))
     (refusedStart BadStart)

@@ -4,90 +4,90 @@ ghost use mathlib.Core.Path.{_≡_};
 ghost use mathlib.Core.List.{[]};
 ghost use Prim.Native.Nat.{_≤_};
 ghost use lib.ListN.{length};
-ghost use Rattle.clean.specs.Clean.{lineLimit};
-ghost use Rattle.refusal.specs.Meaning.{numberOf};
-ghost use Rattle.refusal.specs.Answer.{toldOf, numbersOf};
-ghost use Rattle.refusal.specs.declared.Outcome.the-variants.{Refused};
-ghost use Rattle.reply.specs.After.{Meets};
+ghost use Rattle.line_text.specs.Clean.{lineLimit};
+ghost use Rattle.outcome.specs.Code.{numberOf};
+ghost use Rattle.outcome.specs.Answer.{reportOf, numbersOf};
+ghost use Rattle.outcome.specs.declared.Outcome.the-variants.{Refused};
+ghost use Rattle.reply_buffer.specs.After.{Meets};
 ghost use Rattle.line.specs.Line.{lineOf};
-ghost use Rattle.event.specs.Event.{happenedOf, eventOf};
-ghost use Rattle.lockin.specs.Start.{refusedStart, startOf};
-ghost use Rattle.lockin.specs.Calls.{lineCall, byteCall, calledOf, eventCall, takenOf, pollOf};
+ghost use Rattle.event.specs.Event.{eventEffect, eventOf};
+ghost use Rattle.lockin.specs.Start.{refusedStart, startCall};
+ghost use Rattle.lockin.specs.Calls.{lineCall, byteCall, lineResult, eventCall, eventResult, pollCall};
 ghost use Rattle.lockin.specs.Calls.{guarded, refusedWhole, lineRan, lineEnd, wholeEnd};
 ghost use Rattle.lockin.specs.Parts.{lengthOf, resultOf, GuardedStep};
 pub use event::Event;
-use event::Happened;
+use event::EventEffect;
 use line::Progress;
 pub use module::Module;
-use queue::Ended;
+pub use outcome::Answer;
+pub use outcome::Outcome;
+pub use outcome::Refusal;
+pub use outcome::Report;
+pub use outcome::ReportNumbers;
+pub use outcome::number_of;
+pub use outcome::numbers_of;
+use queue::LineEnd;
 use queue::Queue;
 use queue::QueueStep;
-pub use refusal::Answer;
-pub use refusal::Numbers;
-pub use refusal::Outcome;
-pub use refusal::Refusal;
-pub use refusal::Told;
-pub use refusal::number_of;
-pub use refusal::numbers_of;
 use settings::Settings;
+use state::Installation;
 use state::State;
-use state::Unit;
 
 // A start: the module, and whether the start was refused.
-pub struct Started {
+pub struct StartResult {
     pub after: Module,
     pub outcome: Outcome,
 }
 
 // A call with a line or a byte: the module after it, and its report. A byte that ends no line reports that nothing is
 // refused, and length 0.
-pub struct Called {
+pub struct LineResult {
     pub after: Module,
-    pub told: Told,
+    pub report: Report,
 }
 
 // A call with an event: the module after it, and whether it was refused.
-pub struct Taken {
+pub struct EventResult {
     pub after: Module,
     pub outcome: Outcome,
 }
 
 // A serial poll: the status byte, 0 where the state was refused.
-pub struct Polled {
+pub struct PollResult {
     pub status: u8,
     pub outcome: Outcome,
 }
 
 // A refused start gives a fresh module with serial 0, GPIB and capacity 1.
-fn refused_start(refusal: Refusal) -> Started
+fn refused_start(refusal: Refusal) -> StartResult
     ensures { λ r. ⌜ r ≡ refusedStart refusal ⌝ }
 {
-    let unit = Unit {
+    let installation = Installation {
         serial: 0,
         port: state::GPIB,
         capacity: Settings::CAPACITY_LEAST,
     };
-    Started {
-        after: module::fresh(unit),
+    StartResult {
+        after: module::fresh(installation),
         outcome: Outcome::Refused(refusal),
     }
 }
 
 // A fresh module over two traces, which are not written. Port 0 is RS232, 1 is GPIB.
-pub fn start(serial: u32, port: u32, one: &[u32], two: &[u32]) -> Started
-    ensures { λ r. ⌜ r ≡ startOf serial port (length (now (one .entry))) (length (now (two .entry))) ⌝ }
+pub fn start(serial: u32, port: u32, one: &[u32], two: &[u32]) -> StartResult
+    ensures { λ r. ⌜ r ≡ startCall serial port (length (now (one .entry))) (length (now (two .entry))) ⌝ }
     ensures { λ r. ⌜ numberOf (r .outcome)
-        ≡ numberOf (startOf serial port (length (now (one .entry))) (length (now (two .entry))) .outcome) ⌝ }
+        ≡ numberOf (startCall serial port (length (now (one .entry))) (length (now (two .entry))) .outcome) ⌝ }
 {
-    if module::unit_known(serial, port) {
+    if module::installation_known(serial, port) {
         if module::traces_fit(one.len(), two.len()) {
-            let unit = Unit {
+            let installation = Installation {
                 serial,
                 port: (port % 256) as u8,
                 capacity: (one.len() % 65536) as u32,
             };
-            return Started {
-                after: module::fresh(unit),
+            return StartResult {
+                after: module::fresh(installation),
                 outcome: Outcome::Done,
             };
         }
@@ -99,11 +99,11 @@ pub fn start(serial: u32, port: u32, one: &[u32], two: &[u32]) -> Started
 // What a line's end leaves of the state, and what is reported.
 struct StateResult {
     state: State,
-    told: Told,
+    report: Report,
 }
 
 // The length reported of a line that ran.
-fn length_told(p: Progress) -> usize
+fn reported_length(p: Progress) -> usize
     ensures { λ r. ⌜ r ≡ lengthOf p ⌝ }
 {
     let dropped = p.dropped;
@@ -121,29 +121,29 @@ fn run(s: State, text: &[u8], one: &mut [u32], two: &mut [u32], reply: &mut [u8]
         r (now (one .exit)) (now (two .exit)) (now (reply .exit)) (now (reply .entry)) ⌝ }
 {
     let p = line::run_line(s, text, one, two, reply);
-    let length = length_told(p);
+    let length = reported_length(p);
     let state = p.state;
     let answer = p.answer;
     StateResult {
         state,
-        told: Told { answer, length },
+        report: Report { answer, length },
     }
 }
 
 // Nothing is done but the report of an answer.
 fn tell(s: State, answer: Answer) -> StateResult
-    ensures { λ r. ⌜ r ≡ record { state = s; told = toldOf answer 0 } ⌝ }
+    ensures { λ r. ⌜ r ≡ record { state = s; report = reportOf answer 0 } ⌝ }
 {
     StateResult {
         state: s,
-        told: Told { answer, length: 0 },
+        report: Report { answer, length: 0 },
     }
 }
 
 // What comes of the end of a line, which is `text`, of a line too long, or of neither.
 fn end_line(
     s: State,
-    ended: Ended,
+    ending: LineEnd,
     text: &[u8],
     one: &mut [u32],
     two: &mut [u32],
@@ -151,14 +151,14 @@ fn end_line(
 ) -> StateResult
     requires { ⌜ length (now text) ≤ lineLimit ⌝ }
     ensures { λ r. ⌜ Meets resultOf
-        (lineEnd ended (length (now (reply .entry))) (now (text .entry)) s (now (one .entry)) (now (two .entry)))
+        (lineEnd ending (length (now (reply .entry))) (now (text .entry)) s (now (one .entry)) (now (two .entry)))
         r (now (one .exit)) (now (two .exit)) (now (reply .exit)) (now (reply .entry)) ⌝ }
 {
-    match ended {
-        Ended::Nothing => tell(s, Answer::Passed),
-        Ended::Line => run(s, text, one, two, reply),
-        Ended::TooLong => tell(
-            state::marked(s, Refusal::LongLine),
+    match ending {
+        LineEnd::Nothing => tell(s, Answer::Passed),
+        LineEnd::Line => run(s, text, one, two, reply),
+        LineEnd::TooLong => tell(
+            state::with_error_bit(s, Refusal::LongLine),
             Answer::Refused(Refusal::LongLine, 0),
         ),
     }
@@ -168,7 +168,7 @@ fn end_line(
 fn end_guarded(
     s: State,
     outcome: Outcome,
-    ended: Ended,
+    ending: LineEnd,
     text: &[u8],
     one: &mut [u32],
     two: &mut [u32],
@@ -177,24 +177,24 @@ fn end_guarded(
     requires { ⌜ length (now text) ≤ lineLimit ⌝ }
     ensures { λ r. ⌜ Meets resultOf
         (guarded refusedWhole outcome
-        (lineEnd ended (length (now (reply .entry))) (now (text .entry)) s (now (one .entry)) (now (two .entry)))
+        (lineEnd ending (length (now (reply .entry))) (now (text .entry)) s (now (one .entry)) (now (two .entry)))
         s (now (one .entry)) (now (two .entry)))
         r (now (one .exit)) (now (two .exit)) (now (reply .exit)) (now (reply .entry)) ⌝ }
 {
     match outcome {
-        Outcome::Done => end_line(s, ended, text, one, two, reply),
+        Outcome::Done => end_line(s, ending, text, one, two, reply),
         Outcome::Refused(refusal) => tell(s, Answer::Refused(refusal, 0)),
     }
 }
 
 // A line of `len` bytes handed over whole: it ends, or is too long.
-fn whole_end(len: usize) -> Ended
+fn whole_end(len: usize) -> LineEnd
     ensures { λ r. ⌜ r ≡ wholeEnd len ⌝ }
 {
-    if len <= clean::LINE {
-        return Ended::Line;
+    if len <= line_text::LINE {
+        return LineEnd::Line;
     }
-    Ended::TooLong
+    LineEnd::TooLong
 }
 
 // A line handed over whole: no queue is used.
@@ -204,11 +204,11 @@ pub fn take_line(
     one: &mut [u32],
     two: &mut [u32],
     reply: &mut [u8],
-) -> Called
-    ensures { λ r. ⌜ Meets calledOf
+) -> LineResult
+    ensures { λ r. ⌜ Meets lineResult
         (lineCall (length (now (reply .entry))) (now (text .entry)) m (now (one .entry)) (now (two .entry)))
         r (now (one .exit)) (now (two .exit)) (now (reply .exit)) (now (reply .entry)) ⌝ }
-    ensures { λ r. ⌜ numbersOf (r .told) ≡ numbersOf
+    ensures { λ r. ⌜ numbersOf (r .report) ≡ numbersOf
         (lineCall (length (now (reply .entry))) (now (text .entry)) m (now (one .entry)) (now (two .entry)) .report) ⌝ }
 {
     let state = m.state;
@@ -218,21 +218,21 @@ pub fn take_line(
         state,
         &bytes,
         queue.len,
-        queue.dropping,
+        queue.discarding,
         one.len(),
         two.len(),
     );
-    let ended = whole_end(text.len());
-    let end = queue::line_end(text.len());
-    let r = end_guarded(state, outcome, ended, &text[0..end], one, two, reply);
+    let ending = whole_end(text.len());
+    let end = queue::end_index(text.len());
+    let r = end_guarded(state, outcome, ending, &text[0..end], one, two, reply);
     let after = r.state;
-    let told = r.told;
-    Called {
+    let report = r.report;
+    LineResult {
         after: Module {
             queue,
             state: after,
         },
-        told,
+        report,
     }
 }
 
@@ -240,21 +240,21 @@ pub fn take_line(
 fn step_guarded(
     outcome: Outcome,
     len: usize,
-    dropping: bool,
+    discarding: bool,
     port: u8,
     b: u8,
     mark: bool,
 ) -> QueueStep
-    ensures { λ r. ⌜ GuardedStep outcome len dropping port b mark r ⌝ }
+    ensures { λ r. ⌜ GuardedStep outcome len discarding port b mark r ⌝ }
 {
     match outcome {
-        Outcome::Done => queue::step_of(len, dropping, port, b, mark),
+        Outcome::Done => queue::step_of(len, discarding, port, b, mark),
         Outcome::Refused(refusal) => QueueStep {
             stores: false,
             line: len,
             len,
-            dropping,
-            ended: Ended::Nothing,
+            discarding,
+            ending: LineEnd::Nothing,
         },
     }
 }
@@ -268,49 +268,55 @@ pub fn take_byte(
     one: &mut [u32],
     two: &mut [u32],
     reply: &mut [u8],
-) -> Called
-    ensures { λ r. ⌜ Meets calledOf
+) -> LineResult
+    ensures { λ r. ⌜ Meets lineResult
         (byteCall (length (now (reply .entry))) b mark m (now (one .entry)) (now (two .entry)))
         r (now (one .exit)) (now (two .exit)) (now (reply .exit)) (now (reply .entry)) ⌝ }
-    ensures { λ r. ⌜ numbersOf (r .told) ≡ numbersOf
+    ensures { λ r. ⌜ numbersOf (r .report) ≡ numbersOf
         (byteCall (length (now (reply .entry))) b mark m (now (one .entry)) (now (two .entry)) .report) ⌝ }
 {
     let state = m.state;
-    let port = m.state.unit.port;
+    let port = m.state.installation.port;
     let mut bytes = m.queue.bytes;
     let len = m.queue.len;
-    let dropping = m.queue.dropping;
-    let outcome = module::guard(state, &bytes, len, dropping, one.len(), two.len());
-    let step = step_guarded(outcome, len, dropping, port, b, mark);
+    let discarding = m.queue.discarding;
+    let outcome = module::guard(state, &bytes, len, discarding, one.len(), two.len());
+    let step = step_guarded(outcome, len, discarding, port, b, mark);
     queue::store(&mut bytes, len, b, step.stores);
-    let end = queue::line_end(step.line);
-    let ended = step.ended;
-    let r = end_guarded(state, outcome, ended, &bytes[0..end], one, two, reply);
+    let end = queue::end_index(step.line);
+    let ending = step.ending;
+    let r = end_guarded(state, outcome, ending, &bytes[0..end], one, two, reply);
     let after = r.state;
-    let told = r.told;
-    Called {
+    let report = r.report;
+    LineResult {
         after: Module {
             queue: Queue {
                 bytes,
                 len: step.len,
-                dropping: step.dropping,
+                discarding: step.discarding,
             },
             state: after,
         },
-        told,
+        report,
     }
 }
 
 // What an event does to the state, or its refusal by 11 or 9.
-fn occur_guarded(s: State, outcome: Outcome, e: Event, one: &mut [u32], two: &mut [u32]) -> Happened
-    ensures { λ r. ⌜ Meets happenedOf
+fn occur_guarded(
+    s: State,
+    outcome: Outcome,
+    e: Event,
+    one: &mut [u32],
+    two: &mut [u32],
+) -> EventEffect
+    ensures { λ r. ⌜ Meets eventEffect
         (guarded Refused outcome (eventOf e s (now (one .entry)) (now (two .entry)))
         s (now (one .entry)) (now (two .entry)))
         r (now (one .exit)) (now (two .exit)) [] [] ⌝ }
 {
     match outcome {
         Outcome::Done => event::occur(s, e, one, two),
-        Outcome::Refused(refusal) => Happened {
+        Outcome::Refused(refusal) => EventEffect {
             state: s,
             outcome: Outcome::Refused(refusal),
         },
@@ -318,8 +324,8 @@ fn occur_guarded(s: State, outcome: Outcome, e: Event, one: &mut [u32], two: &mu
 }
 
 // An event. It is lent no reply room.
-pub fn take_event(m: Module, e: Event, one: &mut [u32], two: &mut [u32]) -> Taken
-    ensures { λ r. ⌜ Meets takenOf (eventCall e m (now (one .entry)) (now (two .entry)))
+pub fn take_event(m: Module, e: Event, one: &mut [u32], two: &mut [u32]) -> EventResult
+    ensures { λ r. ⌜ Meets eventResult (eventCall e m (now (one .entry)) (now (two .entry)))
         r (now (one .exit)) (now (two .exit)) [] [] ⌝ }
     ensures { λ r. ⌜ numberOf (r .outcome) ≡ numberOf (eventCall e m (now (one .entry)) (now (two .entry)) .report) ⌝ }
 {
@@ -330,14 +336,14 @@ pub fn take_event(m: Module, e: Event, one: &mut [u32], two: &mut [u32]) -> Take
         state,
         &bytes,
         queue.len,
-        queue.dropping,
+        queue.discarding,
         one.len(),
         two.len(),
     );
     let h = occur_guarded(state, guard, e, one, two);
     let after = h.state;
     let outcome = h.outcome;
-    Taken {
+    EventResult {
         after: Module {
             queue,
             state: after,
@@ -347,19 +353,19 @@ pub fn take_event(m: Module, e: Event, one: &mut [u32], two: &mut [u32]) -> Take
 }
 
 // The status byte between lines, as a serial poll reads it.
-pub fn poll(m: Module) -> Polled
-    ensures { λ r. ⌜ r ≡ pollOf m ⌝ }
-    ensures { λ r. ⌜ numberOf (r .outcome) ≡ numberOf (pollOf m .outcome) ⌝ }
+pub fn poll(m: Module) -> PollResult
+    ensures { λ r. ⌜ r ≡ pollCall m ⌝ }
+    ensures { λ r. ⌜ numberOf (r .outcome) ≡ numberOf (pollCall m .outcome) ⌝ }
 {
     let state = m.state;
     let bytes = m.queue.bytes;
-    if module::allowed(state, &bytes, m.queue.len, m.queue.dropping) {
-        return Polled {
+    if module::is_valid(state, &bytes, m.queue.len, m.queue.discarding) {
+        return PollResult {
             status: module::status_between(state),
             outcome: Outcome::Done,
         };
     }
-    Polled {
+    PollResult {
         status: 0,
         outcome: Outcome::Refused(Refusal::BadState),
     }

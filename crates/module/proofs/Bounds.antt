@@ -7,11 +7,11 @@ use native.Mathlib.Nat.{mod-eq-of-lt}
 use lib.Dec.{leb, eqb}
 use borrow.Author.Tests.{leb-true}
 use Rattle.laws.proofs.Tests.{and-second}
-use Rattle.module.specs.Start.{unitKnown, tracesFit}
+use Rattle.module.specs.Start.{installationKnown, tracesFit}
 
 -- a known port and a capacity are small
-pub port-small : (serial port : ℕ) → unitKnown serial port ≡ true → port % 256 ≡ port
-unfolding unitKnown
+pub port-small : (serial port : ℕ) → installationKnown serial port ≡ true → port % 256 ≡ port
+unfolding installationKnown
 port-small serial port e =
     let l = leb-true port 1 (and-second (leb serial 99999) (leb port 1) e) in
     mod-eq-of-lt (omega arith)

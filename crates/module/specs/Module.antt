@@ -3,10 +3,10 @@
 use Prim.Native.Nat.{ℕ}
 use mathlib.Core.Bool.{Bool, true, false, cond, _&&_}
 use lib.Dec.{eqb}
-use Rattle.refusal.specs.declared.Refusal.the-variants.{BadTraces, BadState}
-use Rattle.refusal.specs.declared.Outcome.{Outcome}
-use Rattle.refusal.specs.declared.Outcome.the-variants as outcome
-use Rattle.state.specs.Allowed.{allowedState}
+use Rattle.outcome.specs.declared.Refusal.the-variants.{BadTraces, BadState}
+use Rattle.outcome.specs.declared.Outcome.{Outcome}
+use Rattle.outcome.specs.declared.Outcome.the-variants as outcome
+use Rattle.state.specs.Valid.{validState}
 use Rattle.state.specs.declared.State.{State}
 use Rattle.status.specs.Status.{statusByte}
 use Rattle.storage.specs.Storage.{atRest}
@@ -14,14 +14,14 @@ use Rattle.queue.specs.Queue as queue
 use Rattle.module.specs.declared.Module.{Module}
 
 -- refusal 11: "a state outside the ranges, steps and limits above"; the queue is part of it
-unfoldable pub allowedModule : Module → Bool
-allowedModule m = allowedState (m .state) && queue.keepsOf (m .queue) (m .state .unit .port)
+unfoldable pub validModule : Module → Bool
+validModule m = validState (m .state) && queue.isValid (m .queue) (m .state .installation .port)
 
 -- "Order: 10, 11, 9": 9, "traces .. not the state's capacity"
 unfoldable pub guardOf : Module → ℕ → ℕ → Outcome
 guardOf m first second =
-    cond (allowedModule m)
-    (cond (eqb first (m .state .unit .capacity) && eqb second (m .state .unit .capacity)) outcome.Done
+    cond (validModule m)
+    (cond (eqb first (m .state .installation .capacity) && eqb second (m .state .installation .capacity)) outcome.Done
     (outcome.Refused BadTraces))
     (outcome.Refused BadState)
 
@@ -29,4 +29,4 @@ guardOf m first second =
 unfoldable pub statusBetween : State → ℕ
 statusBetween s =
     statusByte (s .registers) (s .enables)
-    (record { «at_rest» = atRest (s .moving .storage); idle = true; waiting = false })
+    (record { «at_rest» = atRest (s .acquisition .storage); idle = true; waiting = false })

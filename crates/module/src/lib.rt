@@ -3,15 +3,15 @@ ghost use mathlib.Core.Path.{_≡_};
 ghost use lib.ListN.{length};
 ghost use Rattle.queue.specs.Queue.{lineLimit};
 ghost use Rattle.queue.specs.Parts.{queueOf};
-ghost use Rattle.module.specs.Start.{unitKnown, tracesFit, freshModule};
-ghost use Rattle.module.specs.Module.{allowedModule, guardOf, statusBetween};
-use clean::LINE;
+ghost use Rattle.module.specs.Start.{installationKnown, tracesFit, freshModule};
+ghost use Rattle.module.specs.Module.{validModule, guardOf, statusBetween};
+use line_text::LINE;
+use outcome::Outcome;
+use outcome::Refusal;
 use queue::Queue;
-use refusal::Outcome;
-use refusal::Refusal;
 use settings::Settings;
+use state::Installation;
 use state::State;
-use state::Unit;
 use status::Poll;
 
 // A module: its state, and the bytes that wait for their line's end. The queue stands first: behind a state, of 180
@@ -22,8 +22,8 @@ pub struct Module {
 }
 
 // Serial number and port as a start takes them, else refusal 10.
-pub fn unit_known(serial: u32, port: u32) -> bool
-    ensures { λ r. ⌜ r ≡ unitKnown serial port ⌝ }
+pub fn installation_known(serial: u32, port: u32) -> bool
+    ensures { λ r. ⌜ r ≡ installationKnown serial port ⌝ }
 {
     (serial <= state::SERIAL_MOST) & (port <= state::GPIB as u32)
 }
@@ -38,21 +38,21 @@ pub fn traces_fit(first: usize, second: usize) -> bool
 }
 
 // A module at its start.
-pub fn fresh(unit: Unit) -> Module
-    ensures { λ r. ⌜ r ≡ freshModule unit ⌝ }
+pub fn fresh(installation: Installation) -> Module
+    ensures { λ r. ⌜ r ≡ freshModule installation ⌝ }
 {
     Module {
-        state: State::start(unit),
+        state: State::start(installation),
         queue: Queue::empty(),
     }
 }
 
 // Whether a module may have this state and a queue of these bytes, else refusal 11. The bytes are lent, not copied.
-pub fn allowed(s: State, bytes: &[u8; LINE], len: usize, dropping: bool) -> bool
+pub fn is_valid(s: State, bytes: &[u8; LINE], len: usize, discarding: bool) -> bool
     requires { ⌜ length (now bytes) ≡ lineLimit ⌝ }
-    ensures { λ r. ⌜ r ≡ allowedModule (record { queue = queueOf (now (bytes .entry)) len dropping; state = s }) ⌝ }
+    ensures { λ r. ⌜ r ≡ validModule (record { queue = queueOf (now (bytes .entry)) len discarding; state = s }) ⌝ }
 {
-    state::allowed(s) & queue::keeps(bytes, len, dropping, s.unit.port)
+    state::is_valid(s) & queue::bytes_valid(bytes, len, discarding, s.installation.port)
 }
 
 // Refusals 11 and 9 for a state and a queue of these bytes, and traces of these lengths.
@@ -60,16 +60,16 @@ pub fn guard(
     s: State,
     bytes: &[u8; LINE],
     len: usize,
-    dropping: bool,
+    discarding: bool,
     first: usize,
     second: usize,
 ) -> Outcome
     requires { ⌜ length (now bytes) ≡ lineLimit ⌝ }
     ensures { λ r. ⌜ r ≡ guardOf
-        (record { queue = queueOf (now (bytes .entry)) len dropping; state = s }) first second ⌝ }
+        (record { queue = queueOf (now (bytes .entry)) len discarding; state = s }) first second ⌝ }
 {
-    let capacity = s.unit.capacity as usize;
-    if allowed(s, bytes, len, dropping) {
+    let capacity = s.installation.capacity as usize;
+    if is_valid(s, bytes, len, discarding) {
         if (first == capacity) & (second == capacity) {
             return Outcome::Done;
         }
@@ -83,7 +83,7 @@ pub fn status_between(s: State) -> u8
     ensures { λ r. ⌜ r ≡ statusBetween s ⌝ }
 {
     let poll = Poll {
-        at_rest: storage::at_rest(s.moving.storage),
+        at_rest: storage::at_rest(s.acquisition.storage),
         idle: true,
         waiting: false,
     };

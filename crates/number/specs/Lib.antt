@@ -3,3 +3,4 @@ pub mod Number
 pub mod Value
 pub mod Parts
 pub mod Exact
+pub mod TextParts

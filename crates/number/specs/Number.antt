@@ -4,7 +4,7 @@ use mathlib.Core.Bool.{Bool, true, false, cond, not, _&&_, _||_}
 use mathlib.Core.List.{List, [], _∷_, _++_}
 use lib.Dec.{leb, ltb, eqb}
 use lib.ListN.{length}
-use Rattle.divide.specs.Divide.{span, before, after}
+use Rattle.split.specs.Divide.{span, before, after}
 
 -- the sign "+"
 abbrev pub plus : ℕ

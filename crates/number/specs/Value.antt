@@ -5,7 +5,7 @@ use mathlib.Core.Bool.{Bool, cond, not, _&&_, _||_}
 use mathlib.Core.List.{List, [], _∷_}
 use lib.Dec.{leb, eqb}
 use lib.ListN.{length}
-use Rattle.divide.specs.Divide.{before, after}
+use Rattle.split.specs.Divide.{before, after}
 use Rattle.number.specs.Number.{minus, point, letterE, digitZero, begins, unsigned, digits, hasExponent}
 use Rattle.number.specs.declared.Range.{Range}
 use Rattle.number.specs.declared.Argument.{Argument}

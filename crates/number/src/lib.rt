@@ -4,6 +4,10 @@ ghost use mathlib.Core.Bool.{cond};
 ghost use Prim.Native.Nat.{_+_, _<_, _≤_};
 ghost use Rattle.number.specs.Parts.{cap, takenOf, roundedTo, fitsRange, placedIn, valueIn};
 
+mod text;
+
+pub use text::read;
+
 // A whole part past every range: 2^40. A larger one counts as this.
 pub const CAP: u64 = 0x100_0000_0000;
 

@@ -15,8 +15,8 @@ fn main() {
     while turns > 0 {
         next = terminal::next_line(next, &mut chunk, &mut line);
         session = ops_session::run_line(session, &line, next.len, &mut bytes, &mut one, &mut two);
-        let ended = next.ended;
-        if ended {} else {
+        let ending = next.ending;
+        if ending {} else {
             return;
         }
         turns -= 1;

@@ -52,7 +52,7 @@ fn decode_value(part: &[u8], field: usize, bytes: &mut [u8]) -> Number {
 
 // The operation that the text behind its name asks for.
 pub fn decode_alter(text: &[u8], bytes: &mut [u8]) -> Operation {
-    let n = divide::span_of(text, b' ');
+    let n = split::span_of(text, b' ');
     let field = fields::index_of_field(&text[0..n]);
     if n == text.len() {
         return Operation::Invalid;

@@ -138,7 +138,7 @@ pub fn index_of_phase(word: &[u8]) -> usize {
 // Writes what stands before a field's value: a space, the name and `=`, no space before the first field; a comma
 // between the parts of a list.
 pub fn write_name(out: &mut [u8], at: usize, name: &[u8], field: usize) -> usize {
-    let n = divide::span_of(name, b'.');
+    let n = split::span_of(name, b'.');
     if n + 1 < name.len() {
         if name[n + 1] != b'0' {
             return write_byte(out, at, b',');

@@ -100,7 +100,7 @@ fn decode_argument(text: &[u8], start: usize, kind: u8, bytes: &mut [u8]) -> Arg
     if text.len() < start {
         return Argument::Invalid;
     }
-    let end = divide::end_of(text, b' ', start);
+    let end = split::end_of(text, b' ', start);
     let Number::Value(value) = decode_kind(&text[start..end], kind, bytes) else {
         return Argument::Invalid;
     };
@@ -168,7 +168,7 @@ fn operation_of(name: usize, v: [u32; ARGUMENTS]) -> Operation {
 // The operation that a text asks for. The bytes of a line, a script or a queue are stored at the start of a buffer.
 pub fn decode_operation(text: &[u8], bytes: &mut [u8]) -> Operation {
     let names = NAMES;
-    let n = divide::span_of(text, b' ');
+    let n = split::span_of(text, b' ');
     let name = terminal::index_of_word(&names, &text[0..n]);
     if name == ALTER {
         return alter::decode_alter(terminal::bytes_from(text, n + 1), bytes);

@@ -1,13 +1,13 @@
 // The operation `alter`: a module with another value in a field of its state or its queue.
-use clean::LINE;
+use line_text::LINE;
 use lockin::Module;
 use ops_protocol::fields;
 use ops_protocol::fields::Kind;
 use queue::Queue;
-use state::Moving;
+use state::Acquisition;
+use state::Installation;
 use state::Pair;
 use state::State;
-use state::Unit;
 use status::Enables;
 use status::Registers;
 use storage::Phase;
@@ -34,7 +34,7 @@ fn phase_of_number(number: u32) -> Phase {
 }
 
 // The queue of these bytes: of more than 256 it has the first ones, and the length of them all.
-fn queue_of_bytes(bytes: &[u8], dropping: bool) -> Queue {
+fn queue_of_bytes(bytes: &[u8], discarding: bool) -> Queue {
     let mut first = [0u8; LINE];
     let mut i = 0;
     while i < bytes.len() {
@@ -44,12 +44,12 @@ fn queue_of_bytes(bytes: &[u8], dropping: bool) -> Queue {
     Queue {
         bytes: first,
         len: bytes.len(),
-        dropping,
+        discarding,
     }
 }
 
 // Another serial number, port or capacity.
-fn with_unit(u: Unit, field: usize, value: u32) -> Unit {
+fn with_installation(u: Installation, field: usize, value: u32) -> Installation {
     let mut t = u;
     match field {
         fields::SERIAL => t.serial = value,
@@ -115,7 +115,7 @@ fn with_enables(e: Enables, field: usize, byte: u8) -> Enables {
 }
 
 // Another external frequency or storage.
-fn with_moving(m: Moving, field: usize, value: u32) -> Moving {
+fn with_acquisition(m: Acquisition, field: usize, value: u32) -> Acquisition {
     let mut t = m;
     match field {
         fields::EXT => t.external = value,
@@ -129,7 +129,11 @@ fn with_number(s: State, field: usize, value: u32) -> State {
     let byte = (value % 256) as u8;
     let mut t = s;
     match field {
-        fields::SERIAL | fields::PORT | fields::CAP => t.unit = with_unit(s.unit, field, value),
+        fields::SERIAL | fields::PORT | fields::CAP => t.installation = with_installation(
+            s.installation,
+            field,
+            value,
+        ),
         fields::PAIR_ONE | fields::PAIR_TWO => t.latest = with_latest(s.latest, field, value),
         fields::ESR | fields::LIA | fields::ERR => {
             t.registers = with_registers(s.registers, field, byte)
@@ -137,7 +141,7 @@ fn with_number(s: State, field: usize, value: u32) -> State {
         fields::ESE | fields::SRE | fields::LIAE | fields::ERRE => {
             t.enables = with_enables(s.enables, field, byte)
         }
-        _ => t.moving = with_moving(s.moving, field, value),
+        _ => t.acquisition = with_acquisition(s.acquisition, field, value),
     }
     t
 }
@@ -150,9 +154,9 @@ fn with_setting(s: State, entry: usize, value: u32) -> State {
 }
 
 // The queue that drops bytes until their line's end where the value is 1.
-fn with_dropping(q: Queue, value: u32) -> Queue {
+fn with_discarding(q: Queue, value: u32) -> Queue {
     let mut t = q;
-    t.dropping = value == 1;
+    t.discarding = value == 1;
     t
 }
 
@@ -163,9 +167,9 @@ pub fn with_field(m: Module, field: usize, value: u32, bytes: &[u8]) -> Module {
         Kind::Setting(entry) => t.state = with_setting(m.state, entry, value),
         Kind::Queue => t.queue = queue_of_bytes(
             terminal::first_bytes(bytes, value as usize),
-            m.queue.dropping,
+            m.queue.discarding,
         ),
-        Kind::Flag => t.queue = with_dropping(m.queue, value),
+        Kind::Flag => t.queue = with_discarding(m.queue, value),
         _ => t.state = with_number(m.state, field, value),
     }
     t

@@ -1,7 +1,7 @@
 // The answers to operations but for `dump` and `check`, each a line of text.
 use lockin::Module;
-use lockin::Numbers;
-use lockin::Told;
+use lockin::Report;
+use lockin::ReportNumbers;
 use terminal::write_byte;
 use terminal::write_number_after;
 
@@ -23,7 +23,7 @@ pub fn report_number(text: &[u8], number: u8) {
 }
 
 // Writes the three numbers of a line or a byte.
-fn write_numbers(out: &mut [u8], numbers: Numbers) -> usize {
+fn write_numbers(out: &mut [u8], numbers: ReportNumbers) -> usize {
     let refusal = write_number_after(out, 0, b"A ", numbers.refusal as u32);
     let place = write_number_after(out, refusal, b" ", numbers.place);
     let space = write_byte(out, place, b' ');
@@ -31,9 +31,9 @@ fn write_numbers(out: &mut [u8], numbers: Numbers) -> usize {
 }
 
 // Answers a line or a byte: its three numbers, and the whole reply buffer.
-pub fn report_reply(told: Told, reply: &[u8]) {
+pub fn report_reply(report: Report, reply: &[u8]) {
     let mut out = io::buffer();
-    let length = write_numbers(&mut out, lockin::numbers_of(told));
+    let length = write_numbers(&mut out, lockin::numbers_of(report));
     let space = write_byte(&mut out, length, b' ');
     let end = terminal::write_hex_bytes(&mut out, space, reply);
     terminal::end_line(&mut out, end);

@@ -3,8 +3,8 @@ use crate::answer::report_done;
 use crate::answer::report_number;
 use crate::answer::report_reply;
 use crate::reject;
-use lockin::Called;
 use lockin::Event;
+use lockin::LineResult;
 use lockin::Module;
 
 // What a call hands to the module.
@@ -23,7 +23,7 @@ fn call_module(
     one: &mut [u32],
     two: &mut [u32],
     reply: &mut [u8],
-) -> Called {
+) -> LineResult {
     match input {
         Input::Line => lockin::take_line(m, line, one, two, reply),
         Input::Byte(b, mark) => lockin::take_byte(m, b, mark, one, two, reply),
@@ -40,7 +40,7 @@ fn call_and_report(
     reply: &mut [u8],
 ) -> Module {
     let called = call_module(m, input, line, one, two, reply);
-    report_reply(called.told, reply);
+    report_reply(called.report, reply);
     called.after
 }
 

@@ -12,13 +12,13 @@ const WORD_DIGITS: usize = 8;
 // The value of a field that is neither a setting nor `queue`, as a number: a phase by its number.
 fn number_at(m: Module, field: usize) -> u32 {
     let s = m.state;
-    let storage = s.moving.storage;
+    let storage = s.acquisition.storage;
     let phase = storage.phase;
     match field {
-        fields::SERIAL => s.unit.serial,
-        fields::PORT => s.unit.port as u32,
-        fields::CAP => s.unit.capacity,
-        fields::EXT => s.moving.external,
+        fields::SERIAL => s.installation.serial,
+        fields::PORT => s.installation.port as u32,
+        fields::CAP => s.installation.capacity,
+        fields::EXT => s.acquisition.external,
         fields::STORAGE => phase_number(phase),
         fields::HELD => storage.held,
         fields::NEXT => storage.next,
@@ -31,7 +31,7 @@ fn number_at(m: Module, field: usize) -> u32 {
         fields::SRE => s.enables.service as u32,
         fields::LIAE => s.enables.lia as u32,
         fields::ERRE => s.enables.errors as u32,
-        _ => m.queue.dropping as u32,
+        _ => m.queue.discarding as u32,
     }
 }
 
@@ -72,7 +72,7 @@ fn write_fields(out: &mut [u8], at: usize, m: Module) -> usize {
     let mut field = 0;
     while field < fields::COUNT {
         let rest = &names[start..];
-        let n = divide::span_of(rest, b' ');
+        let n = split::span_of(rest, b' ');
         let name = fields::write_name(out, end, &rest[0..n], field);
         end = write_value(out, name, m, field);
         if n == rest.len() {

@@ -4,28 +4,28 @@ use mathlib.Core.Path.{_≡_}
 use mathlib.Core.Bool.{Bool, true, false, cond, _||_}
 use borrow.Author.Tests.{lt-ltb, le-ltb}
 use Rattle.queue.specs.declared.Queue.{Queue}
-use Rattle.queue.specs.declared.Ended.the-variants.{Nothing, Line}
-use Rattle.queue.specs.Queue.{lineLimit, endsLine, isMarked, longer, droppedOf, tooLongOf, addedOf, fedOf}
+use Rattle.queue.specs.declared.LineEnd.the-variants.{Nothing, Line}
+use Rattle.queue.specs.Queue.{lineLimit, endsLine, isMarked, longer, droppedOf, tooLongOf, appendedOf, receivedOf}
 
 -- a byte that is no line end of its own, where it fits and where it does not
 module _ (q : Queue) (b : ℕ) (marked : Bool) where
-  pub added-fits : q .len < lineLimit → addedOf q b marked ≡ record { queue = longer q b; ended = cond marked Line Nothing }
-  unfolding addedOf
+  pub added-fits : q .len < lineLimit → appendedOf q b marked ≡ record { queue = longer q b; ending = cond marked Line Nothing }
+  unfolding appendedOf
   added-fits h = rw (lt-ltb (q .len) lineLimit h)
 
-  pub added-full : lineLimit ≤ q .len → addedOf q b marked ≡ tooLongOf q marked
-  unfolding addedOf
+  pub added-full : lineLimit ≤ q .len → appendedOf q b marked ≡ tooLongOf q marked
+  unfolding appendedOf
   added-full h = rw (le-ltb (q .len) lineLimit h)
 
 module _ (q : Queue) (port b : ℕ) (mark : Bool) where
-  pub fed-dropped : q .dropping ≡ true → fedOf q port b mark ≡ droppedOf q (endsLine port b || isMarked port mark)
-  unfolding fedOf
-  fed-dropped d = rw d
+  pub received-dropped : q .discarding ≡ true → receivedOf q port b mark ≡ droppedOf q (endsLine port b || isMarked port mark)
+  unfolding receivedOf
+  received-dropped d = rw d
 
-  pub fed-ends : q .dropping ≡ false → endsLine port b ≡ true → fedOf q port b mark ≡ record { queue = q; ended = Line }
-  unfolding fedOf
-  fed-ends d e = rw (d, e)
+  pub received-ends : q .discarding ≡ false → endsLine port b ≡ true → receivedOf q port b mark ≡ record { queue = q; ending = Line }
+  unfolding receivedOf
+  received-ends d e = rw (d, e)
 
-  pub fed-added : q .dropping ≡ false → endsLine port b ≡ false → fedOf q port b mark ≡ addedOf q b (isMarked port mark)
-  unfolding fedOf
-  fed-added d e = rw (d, e)
+  pub received-added : q .discarding ≡ false → endsLine port b ≡ false → receivedOf q port b mark ≡ appendedOf q b (isMarked port mark)
+  unfolding receivedOf
+  received-added d e = rw (d, e)

@@ -1,6 +1,6 @@
 -- Laws of the queue.
 pub mod Cases
 pub mod Waiting
-pub mod Kept
-pub mod Stays
+pub mod Valid
+pub mod Preserved
 pub mod Line

@@ -6,13 +6,13 @@ use mathlib.Core.Bool.{Bool, false, cond, _&&_}
 use mathlib.Core.List.{List}
 use lib.Dec.{ltb}
 use lib.ListN.{set, getD}
-use Rattle.queue.specs.Queue.{Fed, lineLimit, endsLine, afterRun}
+use Rattle.queue.specs.Queue.{Received, lineLimit, endsLine, afterRun}
 use Rattle.queue.specs.declared.Queue.{Queue}
 use Rattle.queue.specs.declared.QueueStep.{QueueStep}
 
 -- a queue from its parts
 abbrev pub queueOf : List ℕ → ℕ → Bool → Queue
-queueOf bytes len dropping = record { bytes = bytes; len = len; dropping = dropping }
+queueOf bytes len discarding = record { bytes = bytes; len = len; discarding = discarding }
 
 -- the bytes with the byte b at an offset, if it is stored and there is room
 abbrev pub storedIn : Bool → ℕ → ℕ → List ℕ → List ℕ
@@ -20,11 +20,11 @@ storedIn stores at b bytes = cond (stores && ltb at lineLimit) (set bytes at b) 
 
 -- the step r says what a byte b does to every queue in which len bytes wait: fed, the result, which is the queue after
 -- it and what it ends; run, the queue once a line that ended has run
-pub record Tells (result : List ℕ → Fed) (len b : ℕ) (r : QueueStep) : Type 0 where
-  pub fed : (bytes : List ℕ) → result bytes
-      ≡ record { queue = queueOf (storedIn (r .stores) len b bytes) (r .line) (r .dropping); ended = r .ended }
-  pub run : (bytes : List ℕ) → afterRun (r .ended) (queueOf bytes (r .line) (r .dropping))
-      ≡ queueOf bytes (r .len) (r .dropping)
+pub record Describes (result : List ℕ → Received) (len b : ℕ) (r : QueueStep) : Type 0 where
+  pub received : (bytes : List ℕ) → result bytes
+      ≡ record { queue = queueOf (storedIn (r .stores) len b bytes) (r .line) (r .discarding); ending = r .ending }
+  pub run : (bytes : List ℕ) → afterRun (r .ending) (queueOf bytes (r .line) (r .discarding))
+      ≡ queueOf bytes (r .len) (r .discarding)
 
 -- how many bytes are tested at once for a line's end
 abbrev pub block : ℕ

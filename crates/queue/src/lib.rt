@@ -3,9 +3,9 @@ ghost use mathlib.Core.Path.{_≡_};
 ghost use mathlib.Core.Bool.{true, false};
 ghost use Prim.Native.Nat.{_+_, _≤_, min};
 ghost use lib.ListN.{length, take, drop};
-ghost use Rattle.queue.specs.Queue.{lineLimit, emptyQueue, endsLine, isMarked, addedOf, fedOf, noEnd, keepsOf};
-ghost use Rattle.queue.specs.Parts.{queueOf, storedIn, Tells, block, EndNone};
-use clean::LINE;
+ghost use Rattle.queue.specs.Queue.{lineLimit, emptyQueue, endsLine, isMarked, appendedOf, receivedOf, noEnd, isValid};
+ghost use Rattle.queue.specs.Parts.{queueOf, storedIn, Describes, block, EndNone};
+use line_text::LINE;
 
 // The number of the RS232 port.
 pub const RS232: u8 = 0;
@@ -26,11 +26,11 @@ pub struct Queue {
     // How many bytes wait.
     pub len: usize,
     // Whether bytes are dropped up to the line's end, after a line that was too long.
-    pub dropping: bool,
+    pub discarding: bool,
 }
 
 // What a byte ends.
-pub enum Ended {
+pub enum LineEnd {
     // No line.
     Nothing,
     // The line that waits in the queue, which can run.
@@ -48,9 +48,9 @@ pub struct QueueStep {
     // How many bytes wait once a line that ended has run.
     pub len: usize,
     // Whether bytes are dropped from here on.
-    pub dropping: bool,
+    pub discarding: bool,
     // What the byte ends.
-    pub ended: Ended,
+    pub ending: LineEnd,
 }
 
 impl Queue {
@@ -61,7 +61,7 @@ impl Queue {
         Queue {
             bytes: [0u8; LINE],
             len: 0,
-            dropping: false,
+            discarding: false,
         }
     }
 }
@@ -91,15 +91,15 @@ fn is_marked(port: u8, mark: bool) -> bool
 
 // A byte that ends no line by itself, after `len` bytes: the line's last one where it is marked.
 fn added(len: usize, b: u8, marked: bool) -> QueueStep
-    ensures { λ r. ⌜ Tells (λ bytes. addedOf (queueOf bytes len false) b marked) len b r ⌝ }
+    ensures { λ r. ⌜ Describes (λ bytes. appendedOf (queueOf bytes len false) b marked) len b r ⌝ }
 {
     if LINE <= len {
         return QueueStep {
             stores: false,
             line: 0,
             len: 0,
-            dropping: !marked,
-            ended: Ended::TooLong,
+            discarding: !marked,
+            ending: LineEnd::TooLong,
         };
     }
     if marked {
@@ -107,32 +107,32 @@ fn added(len: usize, b: u8, marked: bool) -> QueueStep
             stores: true,
             line: len + 1,
             len: 0,
-            dropping: false,
-            ended: Ended::Line,
+            discarding: false,
+            ending: LineEnd::Line,
         };
     }
     QueueStep {
         stores: true,
         line: len + 1,
         len: len + 1,
-        dropping: false,
-        ended: Ended::Nothing,
+        discarding: false,
+        ending: LineEnd::Nothing,
     }
 }
 
 // A byte, with its end mark or not, and a queue in which `len` bytes wait.
-pub fn step_of(len: usize, dropping: bool, port: u8, b: u8, mark: bool) -> QueueStep
-    ensures { λ r. ⌜ Tells (λ bytes. fedOf (queueOf bytes len dropping) port b mark) len b r ⌝ }
+pub fn step_of(len: usize, discarding: bool, port: u8, b: u8, mark: bool) -> QueueStep
+    ensures { λ r. ⌜ Describes (λ bytes. receivedOf (queueOf bytes len discarding) port b mark) len b r ⌝ }
 {
     let ends = ends_line(port, b);
     let marked = is_marked(port, mark);
-    if dropping {
+    if discarding {
         return QueueStep {
             stores: false,
             line: len,
             len,
-            dropping: !(ends | marked),
-            ended: Ended::Nothing,
+            discarding: !(ends | marked),
+            ending: LineEnd::Nothing,
         };
     }
     if ends {
@@ -140,8 +140,8 @@ pub fn step_of(len: usize, dropping: bool, port: u8, b: u8, mark: bool) -> Queue
             stores: false,
             line: len,
             len: 0,
-            dropping: false,
-            ended: Ended::Line,
+            discarding: false,
+            ending: LineEnd::Line,
         };
     }
     added(len, b, marked)
@@ -159,7 +159,7 @@ pub fn store(bytes: &mut [u8; LINE], at: usize, b: u8, stores: bool)
 }
 
 // Where a line of `len` bytes ends in the queue.
-pub fn line_end(len: usize) -> usize
+pub fn end_index(len: usize) -> usize
     ensures { λ r. ⌜ r ≡ min len lineLimit ⌝ }
 {
     if len < LINE {
@@ -169,7 +169,7 @@ pub fn line_end(len: usize) -> usize
 }
 
 // Whether no byte of a block ends a line. No byte ends the loop early, so that all of them are tested at once.
-fn sixteen_end_none(bytes: &[u8; LINE], at: usize, port: u8) -> bool
+fn block_ends_none(bytes: &[u8; LINE], at: usize, port: u8) -> bool
     requires { ⌜ at + block ≤ lineLimit ⌝ }
     ensures { λ r. ⌜ (r ≡ true → EndNone port (now (bytes .entry)) at block)
         × (EndNone port (now (bytes .entry)) at block → r ≡ true) ⌝ }
@@ -194,7 +194,7 @@ fn passed_over(bytes: &[u8; LINE], len: usize, port: u8) -> usize
         if LAST_BLOCK < i {
             return i;
         }
-        if sixteen_end_none(bytes, i, port) {} else {
+        if block_ends_none(bytes, i, port) {} else {
             return i;
         }
         i += BLOCK;
@@ -203,14 +203,14 @@ fn passed_over(bytes: &[u8; LINE], len: usize, port: u8) -> usize
 }
 
 // Whether a state of the port may have a queue of these bytes, which are lent and not copied: its part of refusal 11.
-pub fn keeps(bytes: &[u8; LINE], len: usize, dropping: bool, port: u8) -> bool
+pub fn bytes_valid(bytes: &[u8; LINE], len: usize, discarding: bool, port: u8) -> bool
     requires { ⌜ length (now bytes) ≡ lineLimit ⌝ }
-    ensures { λ r. ⌜ r ≡ keepsOf (queueOf (now (bytes .entry)) len dropping) port ⌝ }
+    ensures { λ r. ⌜ r ≡ isValid (queueOf (now (bytes .entry)) len discarding) port ⌝ }
 {
     if LINE < len {
         return false;
     }
-    if dropping {
+    if discarding {
         return len == 0;
     }
     let mut i = passed_over(bytes, len, port);

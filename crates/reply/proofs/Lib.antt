@@ -1,5 +1,3 @@
--- Laws on what is written of a reply.
-pub mod Over
-pub mod Points
-pub mod Sending
-pub mod After
+-- Laws on replies.
+pub mod Sends
+pub mod Texts

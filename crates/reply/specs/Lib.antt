@@ -1,4 +1,3 @@
--- What is written of a reply, and what a step leaves; Parts is what only inner functions are held to.
+-- What a query replies.
 pub mod Reply
-pub mod Parts
-pub mod After
+pub mod Text

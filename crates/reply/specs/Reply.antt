@@ -1,39 +1,46 @@
--- What is written of a reply: document 01, "Storing points" and refusal 4.
-use Prim.Native.Nat.{ℕ, zero, suc, _%_}
+-- What a command replies: document 01, "Settings", "Storing points" and "Events, status, identity".
+use Prim.Native.Nat.{ℕ, _+_}
 use mathlib.Core.Bool.{Bool, cond}
-use mathlib.Core.List.{List, [], _++_}
-use lib.Dec.{leb}
-use lib.ListN.{length, drop, getD}
-use Rattle.point.specs.Point.{floatOf}
-use Rattle.point.specs.Bytes.{littleEndian}
-use Rattle.name.specs.declared.Form.{Form}
-use Rattle.name.specs.declared.Form.the-variants.{Words, Floats}
+use mathlib.Core.List.{List, [], _∷_, _++_}
+use lib.Dec.{eqb}
+use Rattle.storage.specs.Storage.{oldestOf}
+use Rattle.mnemonic.specs.declared.Form.{Form}
+use Rattle.command.specs.declared.QueryArgument.{QueryArgument}
+use Rattle.command.specs.declared.QueryArgument.the-variants.{Value, Pair, Enable, EnableBit, Status, StatusBit}
+use Rattle.command.specs.declared.QueryArgument.the-variants.{Identity, Points, Trace}
+use Rattle.command.specs.declared.Kind.{Kind}
+use Rattle.command.specs.declared.Kind.the-variants.{Set, Query, Act}
+use Rattle.reply_buffer.specs.Buffer.{pointBytes}
+use Rattle.state.specs.declared.State.{State}
+use Rattle.reply.specs.Text.{textOf, terminatorOf}
 
--- "each command of a line is lent the reply buffer from the bytes already written onward": the room's bytes after a
--- reply are the reply's own bytes, then those that stood there
-unfoldable pub over : List ℕ → List ℕ → List ℕ
-over bytes room = bytes ++ drop (length bytes) room
+-- a text with the byte that ends it on the port
+unfoldable pub terminatedText : QueryArgument → State → Bool → List ℕ
+terminatedText q s waiting = textOf q s waiting ++ (terminatorOf (s .installation .port) ∷ [])
 
--- "reply exceeds the room left": then it does not fit
-unfoldable pub fitsIn : List ℕ → ℕ → Bool
-fitsIn bytes room = leb (length bytes) room
+-- "i is 1-2"
+abbrev pub traceOf : ℕ → List ℕ → List ℕ → List ℕ
+traceOf t one two = cond (eqb t 1) one two
 
--- the bytes that are written: "Where nothing is written, all lent memory keeps its bytes."
-unfoldable pub sentBytes : List ℕ → ℕ → List ℕ
-sentBytes bytes room = cond (fitsIn bytes room) bytes []
+-- "TRCL? i,j,k sends k words from bin j", "bin 0 is the oldest"; "Neither has a terminator"
+unfoldable pub traceReply : State → Form → ℕ → ℕ → ℕ → List ℕ → List ℕ → List ℕ
+traceReply s form t bin count one two =
+    pointBytes form (traceOf t one two) (oldestOf (s .acquisition .storage) (s .installation .capacity) + bin) count
 
--- the word at a place of a trace, where places are counted on and on round it: the one behind the last slot is slot 0
--- again; 0 of an empty trace
-unfoldable pub wordAt : List ℕ → ℕ → ℕ
-wordAt trace place = getD trace (place % length trace) 0
+-- what a query replies: points for a trace read, a text for every other one
+unfoldable pub queryReply : QueryArgument → State → Bool → List ℕ → List ℕ → List ℕ
+queryReply (Trace form t bin count) s waiting one two = traceReply s form t bin count one two
+queryReply (Value entry) s waiting one two = terminatedText (Value entry) s waiting
+queryReply (Pair entry) s waiting one two = terminatedText (Pair entry) s waiting
+queryReply (Enable which) s waiting one two = terminatedText (Enable which) s waiting
+queryReply (EnableBit which i) s waiting one two = terminatedText (EnableBit which i) s waiting
+queryReply (Status which) s waiting one two = terminatedText (Status which) s waiting
+queryReply (StatusBit which i) s waiting one two = terminatedText (StatusBit which i) s waiting
+queryReply Identity s waiting one two = terminatedText Identity s waiting
+queryReply Points s waiting one two = terminatedText Points s waiting
 
--- "TRCL? i,j,k sends k words", "TRCB? sends the same values as IEEE single floats": a point's word as it is sent
-unfoldable pub formed : Form → ℕ → ℕ
-formed Words word = word
-formed Floats word = floatOf word
-
--- "TRCL? i,j,k sends k words from bin j, low byte first.": count points from a place on, four bytes each
-unfoldable pub pointBytes : Form → List ℕ → ℕ → ℕ → List ℕ
-pointBytes form trace place zero = []
-pointBytes form trace place (suc count) =
-    littleEndian (formed form (wordAt trace place)) ++ pointBytes form trace (suc place) count
+-- only queries reply
+unfoldable pub replyOf : Kind → State → Bool → List ℕ → List ℕ → List ℕ
+replyOf (Set a) s waiting one two = []
+replyOf (Query q) s waiting one two = queryReply q s waiting one two
+replyOf (Act a) s waiting one two = []

@@ -1,138 +1,101 @@
-// Reply bytes written into the room that is lent: a text, or points of a trace.
+// What a query replies: a text with its end, or points of a trace.
 ghost use mathlib.Core.Path.{_≡_};
-ghost use mathlib.Core.List.{_++_};
-ghost use Prim.Native.Nat.{_+_, _*_, _<_, _≤_};
-ghost use lib.ListN.{length, take, drop};
-ghost use Rattle.text.specs.Parts.{shown};
-ghost use Rattle.point.specs.Bytes.{littleEndian};
-ghost use Rattle.reply.specs.Reply.{over, wordAt, formed, pointBytes};
-ghost use Rattle.reply.specs.Parts.{Sends, slotOf};
-use name::Form;
-use text::Text;
+ghost use mathlib.Core.List.{[]};
+ghost use Prim.Native.Nat.{_+_};
+ghost use Rattle.storage.specs.Storage.{oldestOf};
+ghost use Rattle.reply_buffer.specs.Parts.{sentOf, Sends};
+ghost use Rattle.reply.specs.Reply.{terminatedText, traceReply, queryReply, replyOf};
 
-// Whether a reply fits, and how many bytes of it were written.
-pub struct Sent {
-    pub fits: bool,
-    pub written: usize,
-}
+mod text;
 
-// How many bytes a text says: its length, but no more than it holds.
-fn shown_length(bytes: &[u8], len: usize) -> usize
-    ensures { λ r. ⌜ r ≡ length (take len (now (bytes .entry))) ⌝ }
+use command::Kind;
+use command::QueryArgument;
+use mnemonic::Form;
+use reply_buffer::Sent;
+use state::State;
+use storage::Storage;
+
+// The text that a query replies, with the byte that ends it on the port.
+fn send_text(s: State, q: QueryArgument, waiting: bool, out: &mut [u8]) -> Sent
+    ensures { λ r. ⌜ Sends (terminatedText q s waiting) r (now (out .exit)) (now (out .entry)) ⌝ }
 {
-    if bytes.len() < len {
-        return bytes.len();
-    }
-    len
+    let ending = format::push(
+        text::text_of(s, q, waiting),
+        text::terminator_of(s.installation.port),
+    );
+    reply_buffer::send(ending, out)
 }
 
-// The first n bytes at the front of out.
-fn copy(bytes: &[u8], n: usize, out: &mut [u8])
-    requires { ⌜ (n ≤ length (now bytes)) × (n ≤ length (now out)) ⌝ }
-    ensures { λ _. ⌜ now (out .exit) ≡ take n (now (bytes .entry)) ++ drop n (now (out .entry)) ⌝ }
+// The place of a bin's point.
+fn point_index(s: Storage, capacity: u32, bin: u32) -> u64
+    ensures { λ r. ⌜ r ≡ oldestOf s capacity + bin ⌝ }
 {
-    let mut i = 0;
-    while i < n {
-        out[i] = bytes[i];
-        i += 1;
-    }
+    storage::oldest(s, capacity) + (bin as u64)
 }
 
-// The text at the front of out, where it fits; else nothing.
-pub fn send(t: Text, out: &mut [u8]) -> Sent
-    ensures { λ r. ⌜ Sends (shown t) r (now (out .exit)) (now (out .entry)) ⌝ }
-{
-    let bytes = t.bytes;
-    let n = shown_length(&bytes, t.len);
-    if out.len() < n {
-        return Sent {
-            fits: false,
-            written: 0,
-        };
-    }
-    copy(&bytes, n, out);
-    Sent {
-        fits: true,
-        written: n,
-    }
-}
-
-// The slot in which the point at a place lies; 0 where there is no slot.
-fn slot_of(slots: usize, place: u64) -> usize
-    ensures { λ r. ⌜ r ≡ slotOf slots place ⌝ }
-    ensures { λ r. ⌜ r ≤ slots ⌝ }
-{
-    if slots == 0 {
-        return 0;
-    }
-    (place % slots as u64) as usize
-}
-
-// The word of a trace at a place: that of slot place mod length; 0 of an empty trace.
-pub fn word_at(trace: &[u32], place: u64) -> u32
-    ensures { λ r. ⌜ r ≡ wordAt (now (trace .entry)) place ⌝ }
-{
-    let slot = slot_of(trace.len(), place);
-    if slot < trace.len() {
-        return trace[slot];
-    }
-    0
-}
-
-// A point's word as it is sent.
-fn formed_word(form: Form, word: u32) -> u32
-    ensures { λ r. ⌜ r ≡ formed form word ⌝ }
-{
-    match form {
-        Form::Words => word,
-        Form::Floats => point::float_bits(word),
-    }
-}
-
-// The four bytes of x, low byte first, at a place of out.
-fn put_word(x: u32, at: usize, out: &mut [u8])
-    requires { ⌜ at + 4 ≤ length (now out) ⌝ }
-    ensures { λ _. ⌜ now (out .exit)
-        ≡ take at (now (out .entry)) ++ littleEndian x ++ drop (at + 4) (now (out .entry)) ⌝ }
-{
-    let bytes = point::word_bytes(x);
-    out[at] = bytes[0];
-    out[at + 1] = bytes[1];
-    out[at + 2] = bytes[2];
-    out[at + 3] = bytes[3];
-}
-
-// Points of a trace from a place on, at the front of out.
-fn put_points(trace: &[u32], first: usize, count: usize, form: Form, out: &mut [u8])
-    requires { ⌜ (first + count < 18446744073709551616) × (4 * count ≤ length (now out)) ⌝ }
-    ensures { λ _. ⌜ now (out .exit) ≡ over (pointBytes form (now (trace .entry)) first count) (now (out .entry)) ⌝ }
-{
-    let mut i = 0;
-    while i < count {
-        let word = word_at(trace, (first + i) as u64);
-        let sent = formed_word(form, word);
-        put_word(sent, 4 * i, out);
-        i += 1;
-    }
-}
-
-// The points of a trace from a place on, as words or as floats, four bytes each, at the front of out where they fit;
-// else nothing.
-pub fn send_points(trace: &[u32], place: u64, count: u32, form: Form, out: &mut [u8]) -> Sent
-    ensures { λ r. ⌜ Sends (pointBytes form (now (trace .entry)) place count) r
+// Points of the first trace or the second, from a bin on.
+fn send_trace(
+    s: State,
+    form: Form,
+    t: u32,
+    bin: u32,
+    count: u32,
+    one: &[u32],
+    two: &[u32],
+    out: &mut [u8],
+) -> Sent
+    ensures { λ r. ⌜ Sends (traceReply s form t bin count (now (one .entry)) (now (two .entry))) r
         (now (out .exit)) (now (out .entry)) ⌝ }
 {
-    let points = count as usize;
-    if out.len() < 4 * points {
-        return Sent {
-            fits: false,
-            written: 0,
-        };
+    let place = point_index(s.acquisition.storage, s.installation.capacity, bin);
+    if t == 1 {
+        return reply_buffer::send_points(one, place, count, form, out);
     }
-    let first = slot_of(trace.len(), place);
-    put_points(trace, first, points, form, out);
+    reply_buffer::send_points(two, place, count, form, out)
+}
+
+// What a query replies: points for a trace read, a text for every other one.
+fn send_query(
+    s: State,
+    q: QueryArgument,
+    waiting: bool,
+    one: &[u32],
+    two: &[u32],
+    out: &mut [u8],
+) -> Sent
+    ensures { λ r. ⌜ Sends (queryReply q s waiting (now (one .entry)) (now (two .entry))) r
+        (now (out .exit)) (now (out .entry)) ⌝ }
+{
+    if let QueryArgument::Trace(form, t, bin, count) = q {
+        return send_trace(s, form, t, bin, count, one, two, out);
+    }
+    send_text(s, q, waiting, out)
+}
+
+// Nothing to send, which fits any room.
+fn nothing() -> Sent
+    ensures { λ r. ⌜ r ≡ sentOf [] 0 ⌝ }
+{
     Sent {
         fits: true,
-        written: 4 * points,
+        written: 0,
     }
+}
+
+// A command's reply, where it fits; else nothing.
+pub fn send_reply(
+    s: State,
+    kind: Kind,
+    waiting: bool,
+    one: &[u32],
+    two: &[u32],
+    out: &mut [u8],
+) -> Sent
+    ensures { λ r. ⌜ Sends (replyOf kind s waiting (now (one .entry)) (now (two .entry))) r
+        (now (out .exit)) (now (out .entry)) ⌝ }
+{
+    let Kind::Query(q) = kind else {
+        return nothing();
+    };
+    send_query(s, q, waiting, one, two, out)
 }

@@ -1,4 +1,4 @@
 -- Laws on the script check.
 pub mod Parts
-pub mod Turns
+pub mod LoopStep
 pub mod Script

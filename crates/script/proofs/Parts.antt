@@ -8,8 +8,8 @@ use lib.ListN.{length, take, drop, drop-of-length-le}
 use lib.Seq.{take-all}
 use borrow.Author.Tests.{ltb-true, ltb-false}
 use Rattle.laws.proofs.Tests.{split}
-use Rattle.divide.specs.Divide.{span, onHead, parts}
-use Rattle.divide.proofs.Span.{span-le, parts-first, parts-more, parts-last}
+use Rattle.split.specs.Divide.{span, onHead, parts}
+use Rattle.split.proofs.Span.{span-le, parts-first, parts-more, parts-last}
 use Rattle.script.specs.Check.{withoutLast, linesOf}
 
 -- a line that others follow

@@ -4,20 +4,20 @@ use mathlib.Core.Bool.{Bool, cond}
 use mathlib.Core.List.{List, [], _∷_}
 use lib.Dec.{ltb}
 use lib.ListN.{length}
-use Rattle.divide.specs.Divide.{parts}
-use Rattle.refusal.specs.declared.Refusal.{Refusal}
-use Rattle.refusal.specs.declared.Refusal.the-variants.{NoReset, LongScriptLine, BadTraces}
-use Rattle.refusal.specs.declared.Outcome.{Outcome}
-use Rattle.refusal.specs.declared.Outcome.the-variants as outcome
+use Rattle.split.specs.Divide.{parts}
+use Rattle.outcome.specs.declared.Refusal.{Refusal}
+use Rattle.outcome.specs.declared.Refusal.the-variants.{NoReset, LongScriptLine, BadTraces}
+use Rattle.outcome.specs.declared.Outcome.{Outcome}
+use Rattle.outcome.specs.declared.Outcome.the-variants as outcome
 use Rattle.command.specs.Parsed.{parsedOf}
-use Rattle.clean.specs.Clean.{lineLimit}
-use Rattle.clean.specs.Texts.{textsOf}
-use Rattle.refusal.specs.declared.Answer.{Answer}
-use Rattle.refusal.specs.declared.Answer.the-variants as answer
-use Rattle.two_courses.specs.Model.{modelFits}
-use Rattle.two_courses.specs.declared.Model.{Model}
-use Rattle.two_courses.specs.Courses.{gapOf, textRefusal, textAfter, startBoth}
-use Rattle.two_courses.specs.declared.Both.{Both}
+use Rattle.line_text.specs.Clean.{lineLimit}
+use Rattle.line_text.specs.Texts.{textsOf}
+use Rattle.outcome.specs.declared.Answer.{Answer}
+use Rattle.outcome.specs.declared.Answer.the-variants as answer
+use Rattle.extreme_courses.specs.Model.{modelFits}
+use Rattle.extreme_courses.specs.declared.Model.{Model}
+use Rattle.extreme_courses.specs.Extremes.{beforeLine, textRefusal, textAfter, startExtremes}
+use Rattle.extreme_courses.specs.declared.Extremes.{Extremes}
 use Rattle.verdict.specs.declared.Verdict.{Verdict}
 use Rattle.verdict.specs.declared.Verdict.the-variants.{Fine, No}
 
@@ -28,54 +28,54 @@ unfoldable pub answerAt : Outcome → ℕ → Answer → Answer
 answerAt outcome.Done place later = later
 answerAt (outcome.Refused r) place later = answer.Refused r place
 
-unfoldable pub textsAnswer : Model → ℕ → List (List ℕ) → Both → Answer
+unfoldable pub textsAnswer : Model → ℕ → List (List ℕ) → Extremes → Answer
 textsAnswer model place [] b = answer.Passed
 textsAnswer model place (t ∷ ts) b =
     let p = parsedOf t in
     answerAt (textRefusal p b) place (textsAnswer model (place + 1) ts (textAfter model p b))
 
 -- what is carried past a line's commands
-unfoldable pub textsAfter : Model → List (List ℕ) → Both → Both
+unfoldable pub textsAfter : Model → List (List ℕ) → Extremes → Extremes
 textsAfter model [] b = b
 textsAfter model (t ∷ ts) b = textsAfter model ts (textAfter model (parsedOf t) b)
 
 -- "script line over 256 bytes"
-abbrev pub tooLong : List ℕ → Bool
-tooLong line = ltb lineLimit (length line)
+abbrev pub lineTooLong : List ℕ → Bool
+lineTooLong line = ltb lineLimit (length line)
 
 -- the answer to a line, with what can happen before it: "8 (place 0), then 7, .., then 1 to 3"
-unfoldable pub lineAnswer : Model → List ℕ → Both → Answer
+unfoldable pub lineAnswer : Model → List ℕ → Extremes → Answer
 lineAnswer model l b =
-    cond (tooLong l) (answer.Refused LongScriptLine 0) (textsAnswer model 1 (textsOf l) (gapOf model b))
+    cond (lineTooLong l) (answer.Refused LongScriptLine 0) (textsAnswer model 1 (textsOf l) (beforeLine model b))
 
 -- what is carried past a line
-abbrev pub lineAfter : Model → List ℕ → Both → Both
-lineAfter model l b = textsAfter model (textsOf l) (gapOf model b)
+abbrev pub lineAfter : Model → List ℕ → Extremes → Extremes
+lineAfter model l b = textsAfter model (textsOf l) (beforeLine model b)
 
 -- ---- a list of lines
 
 -- what is found in a list of lines: nothing is refused; there is no command at all; or the first refusal, with the
 -- index
 -- of its line, counted from 0, and its place
-pub data Found : Type 0 where
-  fine : Found
-  noCommand : Found
-  stop : (index place : ℕ) (r : Refusal) → Found
+pub data Finding : Type 0 where
+  fine : Finding
+  noCommand : Finding
+  stop : (index place : ℕ) (r : Refusal) → Finding
 
 -- the same, behind one more line
-abbrev pub later : Found → Found
+abbrev pub later : Finding → Finding
 later fine = fine
 later noCommand = noCommand
 later (stop i place r) = stop (suc i) place r
 
 -- a line's answer, and what is found behind it
-unfoldable pub foundBy : Answer → Found → Found
-foundBy answer.Passed behind = later behind
-foundBy (answer.Refused r place) behind = stop 0 place r
+unfoldable pub foundBy : Answer → Finding → Finding
+foundBy answer.Passed nextEntry = later nextEntry
+foundBy (answer.Refused r place) nextEntry = stop 0 place r
 
-unfoldable pub found : Model → List (List ℕ) → Both → Found
-found model [] b = cond (b .begun) fine noCommand
-found model (l ∷ ls) b = foundBy (lineAnswer model l b) (found model ls (lineAfter model l b))
+unfoldable pub finding : Model → List (List ℕ) → Extremes → Finding
+finding model [] b = cond (b .begun) fine noCommand
+finding model (l ∷ ls) b = foundBy (lineAnswer model l b) (finding model ls (lineAfter model l b))
 
 -- ---- the verdict
 
@@ -84,7 +84,7 @@ abbrev pub lineNumber : ℕ → ℕ
 lineNumber i = suc i
 
 -- "A script with none is 7 at line 1, place 1."
-abbrev pub verdictOf : Found → Verdict
+abbrev pub verdictOf : Finding → Verdict
 verdictOf fine = Fine
 verdictOf noCommand = No 1 1 NoReset
 verdictOf (stop i place r) = No (lineNumber i) place r
@@ -106,4 +106,4 @@ linesOf script = withoutLast (parts 10 script)
 -- "9 first (line 0, place 0)"
 unfoldable pub checkOf : Model → List ℕ → Verdict
 checkOf model script =
-    cond (modelFits model) (verdictOf (found model (linesOf script) startBoth)) (No 0 0 BadTraces)
+    cond (modelFits model) (verdictOf (finding model (linesOf script) startExtremes)) (No 0 0 BadTraces)

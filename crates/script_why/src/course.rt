@@ -2,11 +2,11 @@
 // the highest frequency that is taken, where one is measured, and then a trigger. These are the two courses that the
 // check follows.
 use crate::operation;
-use lockin::Called;
 use lockin::Event;
+use lockin::LineResult;
 use lockin::Module;
 use lockin::Refusal;
-use lockin::Told;
+use lockin::Report;
 
 // The module's serial number.
 const SERIAL: u32 = 0;
@@ -33,7 +33,7 @@ fn measure(course: Course, m: Module, one: &mut [u32], two: &mut [u32]) -> Modul
     if settings::is_internal(settings) {
         return m;
     }
-    let frequency = two_courses::highest(settings::value_of(settings, settings::HARM));
+    let frequency = extreme_courses::highest(settings::value_of(settings, settings::HARM));
     if course.prints {
         operation::print_measured(frequency);
     }
@@ -66,7 +66,7 @@ fn run_line(
     one: &mut [u32],
     two: &mut [u32],
     reply: &mut [u8],
-) -> Called {
+) -> LineResult {
     let called = lockin::take_line(
         events_before_line(course, m, one, two),
         text,
@@ -75,16 +75,16 @@ fn run_line(
         reply,
     );
     if course.prints {
-        let told = called.told;
-        operation::print_line(text, told.length);
+        let report = called.report;
+        operation::print_line(text, report.length);
     }
     called
 }
 
 // Whether a line answers refusal 3 at a place.
-fn refuses_at(told: Told, place: u32) -> bool {
-    let meaning = refusal::meaning_of(Refusal::NotAllowed);
-    let numbers = lockin::numbers_of(told);
+fn refuses_at(report: Report, place: u32) -> bool {
+    let meaning = outcome::code_of(Refusal::NotAllowed);
+    let numbers = lockin::numbers_of(report);
     if numbers.refusal == meaning.number {
         return numbers.place == place;
     }
@@ -105,10 +105,10 @@ pub fn run(
     let mut line = 1;
     let mut start = 0;
     while start < script.len() {
-        let end = divide::end_of(script, b'\n', start);
+        let end = split::end_of(script, b'\n', start);
         let called = run_line(course, latest, &script[start..end], one, two, reply);
         if line == course.line {
-            return refuses_at(called.told, course.place);
+            return refuses_at(called.report, course.place);
         }
         latest = called.after;
         line += 1;

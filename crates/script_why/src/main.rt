@@ -7,7 +7,7 @@ mod course;
 mod operation;
 
 use course::Course;
-use refusal::Refusal;
+use outcome::Refusal;
 use settings::Settings;
 use verdict::Verdict;
 

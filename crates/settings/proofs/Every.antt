@@ -7,7 +7,7 @@ use native.Mathlib.Numerals.{add-one}
 use lib.Dec.{eqb}
 use borrow.Author.Tests.{eqb-true, eqb-false}
 use Rattle.laws.proofs.Tests.{and-first, and-second}
-use Rattle.settings.specs.Allowed.{every}
+use Rattle.settings.specs.Valid.{every}
 
 module _ (test : ℕ → Bool) where
   -- one number more

@@ -7,6 +7,6 @@ pub mod Phase
 pub mod Start
 pub mod Exact
 pub mod Rounded
-pub mod Kept
+pub mod Invariant
 pub mod Stands
 pub mod Values

@@ -12,7 +12,7 @@ use borrow.Author.Tests.{eqb-true}
 use Rattle.settings.specs.Table.{entries, table, rowOf, noRow, level, freq, slvl, valueOf}
 use Rattle.settings.specs.Frequency.{frequencyStep}
 use Rattle.settings.specs.Setting.{stepWith, stepOf}
-use Rattle.settings.specs.Allowed.{keeps, every, keepsAll}
+use Rattle.settings.specs.Valid.{valueValid, every, valuesValid}
 use Rattle.settings.specs.declared.Row.{Row}
 use Rattle.settings.specs.declared.Settings.{Settings}
 use Rattle.settings.proofs.Every.{every-at, every-of, every-fails}
@@ -86,11 +86,11 @@ unfolding stepOf rowOf table
 steps s = two (onStep s) entries freq slvl (omega arith) (omega arith) (single-at s)
 
 -- every value kept, in the parts that the code tests
-pub keeps-parts : (s : Settings) → keepsAll s
+pub parts-valid : (s : Settings) → valuesValid s
     ≡ every (λ e. inRange e (valueOf s e)) entries
     && (eqb (valueOf s freq % frequencyStep (valueOf s freq)) 0 && eqb (valueOf s slvl % level .step) 0)
-unfolding keepsAll keeps
-keeps-parts s =
+unfolding valuesValid valueValid
+parts-valid s =
     parts (λ e. leb (rowOf e .least) (valueOf s e)) (λ e. leb (valueOf s e) (rowOf e .most)) (onStep s) entries
     ∙ rw (steps s)
 

@@ -102,8 +102,8 @@ pub record Inside (r : Range) (x : ℕ) : Type 0 where
 
 module _ (r : Range) (v : Exact) (pos : 0 < v .under) (al : Aligned r) where
   -- the unit of rounding is not 0
-  unit : 0 < v .under * r .step
-  unit = mul-pos pos (al .step)
+  installation : 0 < v .under * r .step
+  installation = mul-pos pos (al .step)
 
   -- a number on the step
   on-step : (m : ℕ) → m % r .step ≡ 0 → m ≡ m / r .step * r .step
@@ -128,9 +128,9 @@ module _ (r : Range) (v : Exact) (pos : 0 < v .under) (al : Aligned r) where
       let n = nearest (v .over) u in
       let b = r .bias / r .step in
       let l : r .low / r .step ≤ b + n =
-      nearest-ge (v .over) u unit b (r .low / r .step) (omega (arith, low-scaled, bias-scaled)) in
+      nearest-ge (v .over) u installation b (r .low / r .step) (omega (arith, low-scaled, bias-scaled)) in
       let h : b + n ≤ r .high / r .step =
-      nearest-le (v .over) u unit b (r .high / r .step) (omega (arith, scaled (r .high) (al .high), bias-scaled)) in
+      nearest-le (v .over) u installation b (r .high / r .step) (omega (arith, scaled (r .high) (al .high), bias-scaled)) in
       let e : r .bias + n * r .step ≡ (b + n) * r .step =
       omega (arith, on-step (r .bias) (al .bias), add-mul b n (r .step)) in
       record {
@@ -146,7 +146,7 @@ module _ (r : Range) (v : Exact) (pos : 0 < v .under) (al : Aligned r) where
       let b = r .bias / r .step in
       let bias = on-step (r .bias) (al .bias) in
       let l : r .low / r .step + n ≤ b =
-      nearest-le (v .over) u unit (r .low / r .step) b (omega (arith, low-scaled, bias-scaled)) in
+      nearest-le (v .over) u installation (r .low / r .step) b (omega (arith, low-scaled, bias-scaled)) in
       let m : n ≤ b = omega arith in
       let s : b ≡ b - n + n = omega arith in
       let e : r .bias - n * r .step ≡ (b - n) * r .step =

@@ -8,13 +8,13 @@ use Rattle.settings.specs.Table.{entries, table, rowOf, startSettings, v
 use Rattle.settings.specs.Table.{phas, fmod, freq, harm, slvl, oflt, srat, send, tstr}
 use Rattle.settings.specs.Frequency.{stepBy, inForce, detectionOf, externalStart}
 use Rattle.settings.specs.Setting.{stepOf}
-use Rattle.settings.specs.Allowed.{keeps, every, keepsAll, allowedOf}
+use Rattle.settings.specs.Valid.{valueValid, every, valuesValid, validSettings}
 use Rattle.settings.specs.declared.Row.{Row}
 
 -- a fresh module's settings are allowed: every start in its range and on its step
-pub start-allowed : allowedOf startSettings externalStart ≡ true
-unfolding table rowOf startSettings stepBy inForce detectionOf stepOf keeps every keepsAll allowedOf
-start-allowed = refl
+pub start-valid : validSettings startSettings externalStart ≡ true
+unfolding table rowOf startSettings stepBy inForce detectionOf stepOf valueValid every valuesValid validSettings
+start-valid = refl
 
 -- the external frequency starts where FREQ does, at 1000 Hz
 pub external-start : externalStart ≡ valueOf startSettings freq

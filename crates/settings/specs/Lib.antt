@@ -4,7 +4,7 @@ pub mod Limits
 pub mod Table
 pub mod Frequency
 pub mod Setting
-pub mod Allowed
+pub mod Valid
 pub mod Parts
 pub mod Exact
-pub mod Kept
+pub mod Invariant

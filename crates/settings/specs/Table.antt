@@ -215,8 +215,8 @@ abbrev pub entries : ℕ
 entries = tstr + 1
 
 -- the entry behind an entry of the table, which holds the second value of a pair (DDEF, OEXP)
-unfoldable pub behind : ℕ → ℕ
-behind entry = cond (ltb entry entries) (entry + 1) entries
+unfoldable pub nextEntry : ℕ → ℕ
+nextEntry entry = cond (ltb entry entries) (entry + 1) entries
 
 -- the row past the table: no value is taken
 abbrev pub noRow : Row
@@ -227,12 +227,12 @@ unfoldable pub rowOf : ℕ → Row
 rowOf entry = getD table entry noRow
 
 -- a row's value at start
-abbrev pub startOf : Row → ℕ
-startOf r = r .start
+abbrev pub startValue : Row → ℕ
+startValue r = r .start
 
 -- every setting at its start, as after *RST
 unfoldable pub startSettings : Settings
-startSettings = record { values = map startOf table }
+startSettings = record { values = map startValue table }
 
 -- the value of an entry, 0 past the table
 abbrev pub valueOf : Settings → ℕ → ℕ

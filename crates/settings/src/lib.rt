@@ -3,12 +3,12 @@ ghost use mathlib.Core.Path.{_≡_};
 ghost use mathlib.Core.Bool.{_&&_};
 ghost use Prim.Native.Nat.{_%_};
 ghost use lib.Dec.{leb, eqb};
-ghost use Rattle.settings.specs.Table.{entries, rowOf, startSettings, turnedOf, behind, valueOf, withValue};
+ghost use Rattle.settings.specs.Table.{entries, rowOf, startSettings, turnedOf, nextEntry, valueOf, withValue};
 ghost use Rattle.settings.specs.Frequency.{frequencyStep, isInternal, inForce, detectionOf, frequencyInRange};
 ghost use Rattle.settings.specs.Frequency.{withinLimit, above200, timeConstantStands, crossingOf};
 ghost use Rattle.settings.specs.Setting.{stepWith, turnedAt};
 ghost use Rattle.settings.specs.Parts.{rangeOf, valueTaken};
-ghost use Rattle.settings.specs.Allowed.{every, keepsAll, allowedOf};
+ghost use Rattle.settings.specs.Valid.{every, valuesValid, validSettings};
 
 mod table;
 
@@ -266,8 +266,8 @@ pub fn with_value(s: Settings, entry: usize, value: u32) -> Settings
 }
 
 // The entry behind an entry: the second value of a pair.
-pub fn behind(entry: usize) -> usize
-    ensures { λ r. ⌜ r ≡ behind entry ⌝ }
+pub fn next_entry(entry: usize) -> usize
+    ensures { λ r. ⌜ r ≡ nextEntry entry ⌝ }
 {
     if entry < ENTRIES {
         return entry + 1;
@@ -463,18 +463,18 @@ fn on_frequency_step(value: u32) -> bool
 }
 
 // Whether a state may keep every value. FREQ and SLVL alone have steps that a value in its range can miss.
-pub fn keeps_all(s: Settings) -> bool
-    ensures { λ r. ⌜ r ≡ keepsAll s ⌝ }
+pub fn values_valid(s: Settings) -> bool
+    ensures { λ r. ⌜ r ≡ valuesValid s ⌝ }
 {
     let steps = on_frequency_step(value_of(s, FREQ)) & (value_of(s, SLVL) % table::LEVEL_STEP == 0);
     in_ranges(s) & steps
 }
 
 // Whether a state may have the settings and the external frequency: the settings' part of refusal 11.
-pub fn allowed(s: Settings, external: u32) -> bool
-    ensures { λ r. ⌜ r ≡ allowedOf s external ⌝ }
+pub fn are_valid(s: Settings, external: u32) -> bool
+    ensures { λ r. ⌜ r ≡ validSettings s external ⌝ }
 {
     let frequency = detection(s, external);
     let stands = time_constant_stands(frequency, value_of(s, OFLT));
-    keeps_all(s) & (frequency_in_range(external) & (within_limit(frequency) & stands))
+    values_valid(s) & (frequency_in_range(external) & (within_limit(frequency) & stands))
 }

@@ -1,4 +1,4 @@
 -- The state of a module, what changes it as a whole, and which states are allowed.
 pub mod State
 pub mod Storing
-pub mod Allowed
+pub mod Valid

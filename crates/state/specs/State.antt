@@ -9,81 +9,81 @@ use Rattle.storage.specs.Storage.{emptiedStorage}
 use Rattle.storage.specs.declared.Storage.{Storage}
 use Rattle.storage.specs.declared.Sampling.{Sampling}
 use Rattle.status.specs.Status.{startRegisters, startEnables, withLia, withStandard}
-use Rattle.refusal.specs.Meaning.{meaningOf}
-use Rattle.refusal.specs.declared.Refusal.{Refusal}
+use Rattle.outcome.specs.Code.{codeOf}
+use Rattle.outcome.specs.declared.Refusal.{Refusal}
 use Rattle.status.specs.declared.Registers.{Registers}
 use Rattle.status.specs.declared.Enables.{Enables}
-use Rattle.state.specs.declared.Unit.{Unit}
+use Rattle.state.specs.declared.Installation.{Installation}
 use Rattle.state.specs.declared.Pair.{Pair}
-use Rattle.state.specs.declared.Moving.{Moving}
+use Rattle.state.specs.declared.Acquisition.{Acquisition}
 use Rattle.state.specs.declared.State.{State}
 
 -- ---- the constructors: no other definition lists the fields of a state or of a part
 
 -- what is fixed at start: serial number, port and capacity
-abbrev pub unitOf : ℕ → ℕ → ℕ → Unit
-unitOf serial port capacity = record { serial = serial; port = port; capacity = capacity }
+abbrev pub installationOf : ℕ → ℕ → ℕ → Installation
+installationOf serial port capacity = record { serial = serial; port = port; capacity = capacity }
 
 -- a point for each trace
 abbrev pub pairOf : ℕ → ℕ → Pair
 pairOf w v = record { one = w; two = v }
 
 -- "start 1000 Hz"; storage is empty
-abbrev pub startMoving : Moving
-startMoving = record { external = externalStart; storage = emptiedStorage }
+abbrev pub startAcquisition : Acquisition
+startAcquisition = record { external = externalStart; storage = emptiedStorage }
 
 -- a fresh state: every setting at its start, PON set, every enable 0, "both words 0 at start"
-unfoldable pub startState : Unit → State
+unfoldable pub startState : Installation → State
 startState u =
     record {
       settings = startSettings;
-      moving = startMoving;
+      acquisition = startAcquisition;
       registers = startRegisters;
       enables = startEnables;
       latest = pairOf 0 0;
-      unit = u;
+      installation = u;
     }
 
 -- ---- one part replaced, the others as they were
 
 -- the moving part at another external frequency
-abbrev pub atFrequency : ℕ → Moving → Moving
+abbrev pub atFrequency : ℕ → Acquisition → Acquisition
 atFrequency f m = record { external = f; storage = m .storage }
 
 -- the moving part with another storage
-abbrev pub withStorage : Storage → Moving → Moving
+abbrev pub withStorage : Storage → Acquisition → Acquisition
 withStorage t m = record { external = m .external; storage = t }
 
 -- all parts given but for what is fixed at start, which stays
-abbrev pub withParts : Settings → Moving → Registers → Enables → Pair → State → State
+abbrev pub withParts : Settings → Acquisition → Registers → Enables → Pair → State → State
 withParts x m r e l s =
-    record { settings = x; moving = m; registers = r; enables = e; latest = l; unit = s .unit }
+    record { settings = x; acquisition = m; registers = r; enables = e; latest = l; installation = s .installation }
 
 -- a state with other settings
 abbrev pub withSettings : Settings → State → State
-withSettings x s = withParts x (s .moving) (s .registers) (s .enables) (s .latest) s
+withSettings x s = withParts x (s .acquisition) (s .registers) (s .enables) (s .latest) s
 
 -- a state with another moving part
-abbrev pub withMoving : Moving → State → State
-withMoving m s = withParts (s .settings) m (s .registers) (s .enables) (s .latest) s
+abbrev pub withAcquisition : Acquisition → State → State
+withAcquisition m s = withParts (s .settings) m (s .registers) (s .enables) (s .latest) s
 
 -- a state with other registers
 abbrev pub withRegisters : Registers → State → State
-withRegisters r s = withParts (s .settings) (s .moving) r (s .enables) (s .latest) s
+withRegisters r s = withParts (s .settings) (s .acquisition) r (s .enables) (s .latest) s
 
 -- a state with other enables
 abbrev pub withEnables : Enables → State → State
-withEnables e s = withParts (s .settings) (s .moving) (s .registers) e (s .latest) s
+withEnables e s = withParts (s .settings) (s .acquisition) (s .registers) e (s .latest) s
 
 -- a state with another latest pair
 abbrev pub withLatest : Pair → State → State
-withLatest l s = withParts (s .settings) (s .moving) (s .registers) (s .enables) l s
+withLatest l s = withParts (s .settings) (s .acquisition) (s .registers) (s .enables) l s
 
 -- ---- the detection frequency
 
 -- "The detection frequency is the harmonic times the frequency in force."
 abbrev pub detectionNow : State → ℕ
-detectionNow s = detectionOf (s .settings) (s .moving .external)
+detectionNow s = detectionOf (s .settings) (s .acquisition .external)
 
 -- the crossing from an old detection frequency to the one of the state
 abbrev pub crossingFrom : ℕ → State → Crossing
@@ -101,8 +101,8 @@ crossedFrom old s =
 
 -- a refusal's effect on the state, "CMD set", "EXE set", "QRY set", "INP set" or "nothing": its standard event bits and
 -- nothing else
-unfoldable pub markedBy : Refusal → State → State
-markedBy refusal s = withRegisters (withStandard (s .registers) (meaningOf refusal .bits)) s
+unfoldable pub withErrorBit : Refusal → State → State
+withErrorBit refusal s = withRegisters (withStandard (s .registers) (codeOf refusal .bits)) s
 
 -- SRAT, SEND and TSTR
 unfoldable pub samplingOf : Settings → Sampling

@@ -1,17 +1,17 @@
 // The state of a module but for its queue: settings, frequencies, storage, status, the latest pair, and what is fixed
 // at start.
 ghost use mathlib.Core.Path.{_≡_};
-ghost use Rattle.state.specs.State.{startMoving, startState, detectionNow, crossedFrom, markedBy};
+ghost use Rattle.state.specs.State.{startAcquisition, startState, detectionNow, crossedFrom, withErrorBit};
 ghost use Rattle.state.specs.State.{samplingOf};
 ghost use Rattle.state.specs.Storing.{triggerOf, tickOf, sampledBy, storedIn};
-ghost use Rattle.state.specs.Allowed.{keepsUnit, keepsLatest, keepsParts, allowedState};
-use refusal::Refusal;
+ghost use Rattle.state.specs.Valid.{installationValid, latestValid, partsValid, validState};
+use outcome::Refusal;
 use settings::Settings;
 use status::Enables;
 use status::Registers;
-use storage::Sampled;
 use storage::Sampling;
 use storage::Storage;
+use storage::StorageStep;
 
 // The ports, as numbers.
 pub use queue::GPIB;
@@ -21,7 +21,7 @@ pub use queue::RS232;
 pub const SERIAL_MOST: u32 = 99999;
 
 // What is fixed at start.
-pub struct Unit {
+pub struct Installation {
     // The serial number, at most SERIAL_MOST.
     pub serial: u32,
     // The port, RS232 or GPIB.
@@ -39,19 +39,19 @@ pub struct Pair {
 }
 
 // What events change too.
-pub struct Moving {
+pub struct Acquisition {
     // The last measured external frequency, in units of 0.1 mHz.
     pub external: u32,
     // Which points the traces hold, and whether more are stored.
     pub storage: Storage,
 }
 
-// The state. Only `State::start` and `Moving::start` list their fields: every other function changes a copy.
+// The state. Only `State::start` and `Acquisition::start` list their fields: every other function changes a copy.
 pub struct State {
     // The value of each setting.
     pub settings: Settings,
     // What events change too.
-    pub moving: Moving,
+    pub acquisition: Acquisition,
     // The event registers.
     pub registers: Registers,
     // The enable registers.
@@ -59,15 +59,15 @@ pub struct State {
     // The latest pair of points, which a trigger or a tick stores.
     pub latest: Pair,
     // What is fixed at start.
-    pub unit: Unit,
+    pub installation: Installation,
 }
 
-impl Moving {
+impl Acquisition {
     // At start and after *RST.
-    pub fn start() -> Moving
-        ensures { λ r. ⌜ r ≡ startMoving ⌝ }
+    pub fn start() -> Acquisition
+        ensures { λ r. ⌜ r ≡ startAcquisition ⌝ }
     {
-        Moving {
+        Acquisition {
             external: Settings::FREQUENCY_START,
             storage: storage::emptied(),
         }
@@ -76,16 +76,16 @@ impl Moving {
 
 impl State {
     // A fresh state.
-    pub fn start(unit: Unit) -> State
-        ensures { λ r. ⌜ r ≡ startState unit ⌝ }
+    pub fn start(installation: Installation) -> State
+        ensures { λ r. ⌜ r ≡ startState installation ⌝ }
     {
         State {
             settings: Settings::start(),
-            moving: Moving::start(),
+            acquisition: Acquisition::start(),
             registers: Registers::start(),
             enables: Enables::start(),
             latest: Pair { one: 0, two: 0 },
-            unit,
+            installation,
         }
     }
 }
@@ -94,8 +94,8 @@ impl State {
 pub fn detection_now(s: State) -> u64
     ensures { λ r. ⌜ r ≡ detectionNow s ⌝ }
 {
-    let moving = s.moving;
-    settings::detection(s.settings, moving.external)
+    let acquisition = s.acquisition;
+    settings::detection(s.settings, acquisition.external)
 }
 
 // The state once its detection frequency has changed from `old`: a crossing of 200 Hz acts on the time constant and
@@ -112,10 +112,10 @@ pub fn crossed(s: State, old: u64) -> State
 }
 
 // The state with a refusal's standard event bits set.
-pub fn marked(s: State, refusal: Refusal) -> State
-    ensures { λ r. ⌜ r ≡ markedBy refusal s ⌝ }
+pub fn with_error_bit(s: State, refusal: Refusal) -> State
+    ensures { λ r. ⌜ r ≡ withErrorBit refusal s ⌝ }
 {
-    let meaning = refusal::meaning_of(refusal);
+    let meaning = outcome::code_of(refusal);
     let mut t = s;
     t.registers = status::with_standard(s.registers, meaning.bits);
     t
@@ -133,61 +133,69 @@ pub fn sampling_of(s: Settings) -> Sampling
 }
 
 // What a trigger does to storage.
-pub fn trigger_of(s: State) -> Sampled
+pub fn trigger_of(s: State) -> StorageStep
     ensures { λ r. ⌜ r ≡ triggerOf s ⌝ }
 {
-    let moving = s.moving;
-    let unit = s.unit;
-    storage::triggered(moving.storage, unit.capacity, sampling_of(s.settings))
+    let acquisition = s.acquisition;
+    let installation = s.installation;
+    storage::triggered(
+        acquisition.storage,
+        installation.capacity,
+        sampling_of(s.settings),
+    )
 }
 
 // What a tick does to storage.
-pub fn tick_of(s: State) -> Sampled
+pub fn tick_of(s: State) -> StorageStep
     ensures { λ r. ⌜ r ≡ tickOf s ⌝ }
 {
-    let moving = s.moving;
-    let unit = s.unit;
-    storage::ticked(moving.storage, unit.capacity, sampling_of(s.settings))
+    let acquisition = s.acquisition;
+    let installation = s.installation;
+    storage::ticked(
+        acquisition.storage,
+        installation.capacity,
+        sampling_of(s.settings),
+    )
 }
 
 // The state after a trigger or a tick.
-pub fn sampled(s: State, p: Sampled) -> State
+pub fn sampled(s: State, p: StorageStep) -> State
     ensures { λ r. ⌜ r ≡ sampledBy p s ⌝ }
 {
     let storage = p.storage;
-    let mut moving = s.moving;
-    moving.storage = storage;
+    let mut acquisition = s.acquisition;
+    acquisition.storage = storage;
     let mut t = s;
-    t.moving = moving;
+    t.acquisition = acquisition;
     t.registers = status::with_lia(s.registers, p.bits);
     t
 }
 
 // Stores the latest pair of the state in the slot that its next point goes to, where a trigger or a tick stores it.
-pub fn store(s: State, p: Sampled, one: &mut [u32], two: &mut [u32])
+pub fn store(s: State, p: StorageStep, one: &mut [u32], two: &mut [u32])
     ensures { λ _. ⌜
         (now (one .exit) ≡ storedIn p s (s .latest .one) (now (one .entry)))
         × (now (two .exit) ≡ storedIn p s (s .latest .two) (now (two .entry))) ⌝ }
 {
     let stores = p.stores;
     if stores {
-        let moving = s.moving;
-        let storage = moving.storage;
+        let acquisition = s.acquisition;
+        let storage = acquisition.storage;
         let latest = s.latest;
         storage::put_pair(one, two, storage.next, latest.one, latest.two);
     }
 }
 
 // Whether a pair may be the latest one: both points are legal.
-pub fn keeps_latest(p: Pair) -> bool
-    ensures { λ r. ⌜ r ≡ keepsLatest p ⌝ }
+pub fn latest_valid(p: Pair) -> bool
+    ensures { λ r. ⌜ r ≡ latestValid p ⌝ }
 {
     point::legal(p.one) & point::legal(p.two)
 }
 
 // Whether serial number, port and capacity are in their ranges.
-fn keeps_unit(u: Unit) -> bool
-    ensures { λ r. ⌜ r ≡ keepsUnit u ⌝ }
+fn installation_valid(u: Installation) -> bool
+    ensures { λ r. ⌜ r ≡ installationValid u ⌝ }
 {
     let capacity = u.capacity;
     let fits = (Settings::CAPACITY_LEAST <= capacity) & (capacity <= Settings::CAPACITY_MOST);
@@ -195,18 +203,18 @@ fn keeps_unit(u: Unit) -> bool
 }
 
 // Whether storage, status and settings are those of an allowed state.
-fn keeps_parts(s: State) -> bool
-    ensures { λ r. ⌜ r ≡ keepsParts s ⌝ }
+fn parts_valid(s: State) -> bool
+    ensures { λ r. ⌜ r ≡ partsValid s ⌝ }
 {
     let end = settings::value_of(s.settings, settings::SEND);
-    let stored = storage::keeps(s.moving.storage, s.unit.capacity, end);
-    settings::allowed(s.settings, s.moving.external)
-        & (stored & status::keeps(s.registers, s.enables))
+    let stored = storage::is_valid(s.acquisition.storage, s.installation.capacity, end);
+    settings::are_valid(s.settings, s.acquisition.external)
+        & (stored & status::bits_valid(s.registers, s.enables))
 }
 
 // Whether the state is inside the ranges, steps and limits: not refused by 11.
-pub fn allowed(s: State) -> bool
-    ensures { λ r. ⌜ r ≡ allowedState s ⌝ }
+pub fn is_valid(s: State) -> bool
+    ensures { λ r. ⌜ r ≡ validState s ⌝ }
 {
-    keeps_parts(s) & (keeps_latest(s.latest) & keeps_unit(s.unit))
+    parts_valid(s) & (latest_valid(s.latest) & installation_valid(s.installation))
 }

@@ -1,4 +1,4 @@
 -- The laws of `status`.
 pub mod Bits
 pub mod Flags
-pub mod Kept
+pub mod Preserved

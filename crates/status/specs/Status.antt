@@ -2,8 +2,8 @@
 use Prim.Native.Nat.{ℕ, _+_, _%_, _^_}
 use mathlib.Core.Bool.{Bool, _&&_, not}
 use lib.Bits.{bitOr}
-use Rattle.name.specs.declared.Register.{Register}
-use Rattle.name.specs.declared.Register.the-variants.{Standard, Service, Lia, Errors}
+use Rattle.mnemonic.specs.declared.Register.{Register}
+use Rattle.mnemonic.specs.declared.Register.the-variants.{Standard, Service, Lia, Errors}
 use Rattle.status.specs.Bits.{withoutBit, withBit, meets, only, flag}
 use Rattle.status.specs.declared.Registers.{Registers}
 use Rattle.status.specs.declared.Enables.{Enables}
@@ -129,8 +129,8 @@ abbrev pub serviceUnused : ℕ
 serviceUnused = 2 ^ serviceBit
 
 -- whether a state may have these registers and enables, their part of refusal 11: no bit is set that nothing sets
-unfoldable pub keepsOf : Registers → Enables → Bool
-keepsOf r e =
+unfoldable pub isValid : Registers → Enables → Bool
+isValid r e =
     not (meets (r .standard) standardUnused)
     && (not (meets (r .lia) liaUnused)
     && (not (meets (r .errors) errorsUnused) && not (meets (e .service) serviceUnused)))

@@ -6,8 +6,8 @@ ghost use Rattle.status.specs.Bits.{bitOf, withoutBit, withBit, meets, o
 ghost use Rattle.status.specs.Status.{startRegisters, registerOf, withRegister, clearedOf, bitCleared};
 ghost use Rattle.status.specs.Status.{allCleared, withStandard, withLia, withRaised, mayRaise};
 ghost use Rattle.status.specs.Status.{startEnables, enableOf, withEnableByte, withEnable, withEnableBit};
-ghost use Rattle.status.specs.Status.{otherBits, statusByte, keepsOf};
-use name::Register;
+ghost use Rattle.status.specs.Status.{otherBits, statusByte, isValid};
+use mnemonic::Register;
 
 // PON, power on: standard event bit 7, the one that is set at start.
 const PON: u8 = 0x80;
@@ -344,8 +344,8 @@ pub fn status_byte(r: Registers, e: Enables, p: Poll) -> u8
 }
 
 // Whether a state may have these registers and enables: their part of refusal 11.
-pub fn keeps(r: Registers, e: Enables) -> bool
-    ensures { λ x. ⌜ x ≡ keepsOf r e ⌝ }
+pub fn bits_valid(r: Registers, e: Enables) -> bool
+    ensures { λ x. ⌜ x ≡ isValid r e ⌝ }
 {
     if common(r.standard, STANDARD_UNUSED) {
         return false;

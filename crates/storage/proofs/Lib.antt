@@ -1,3 +1,3 @@
 -- The laws of `storage`.
-pub mod Kept
-pub mod Stays
+pub mod Valid
+pub mod Preserved

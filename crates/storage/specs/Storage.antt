@@ -7,7 +7,7 @@ use Rattle.storage.specs.declared.Phase.{Phase}
 use Rattle.storage.specs.declared.Phase.the-variants.{Reset, Running, Paused, Done}
 use Rattle.storage.specs.declared.Storage.{Storage}
 use Rattle.storage.specs.declared.Sampling.{Sampling}
-use Rattle.storage.specs.declared.Sampled.{Sampled}
+use Rattle.storage.specs.declared.StorageStep.{StorageStep}
 
 -- SRAT at which a trigger stores, and no tick
 abbrev pub externalRate : ℕ
@@ -111,7 +111,7 @@ unfoldable pub tickStores : Storage → Sampling → Bool
 tickStores s by = isRunning s && not (eqb (by .rate) externalRate)
 
 -- what a tick does
-unfoldable pub tickedOf : Storage → ℕ → Sampling → Sampled
+unfoldable pub tickedOf : Storage → ℕ → Sampling → StorageStep
 tickedOf s capacity by =
     record { storage = storing (tickStores s by) s capacity (by .end); stores = tickStores s by; bits = 0 }
 
@@ -128,7 +128,7 @@ unfoldable pub setsRunning : Storage → Sampling → Bool
 setsRunning s by = not (isRunning s) && isRunning (readiedOf s by)
 
 -- what a trigger does; LIA bit 6 tells that it did anything
-unfoldable pub triggeredOf : Storage → ℕ → Sampling → Sampled
+unfoldable pub triggeredOf : Storage → ℕ → Sampling → StorageStep
 triggeredOf s capacity by =
     record {
       storage = storing (triggerStores s by) (readiedOf s by) capacity (by .end);
@@ -160,5 +160,5 @@ unfoldable pub resetKept : Storage → Bool
 resetKept s = cond (isReset s) (eqb (s .held) 0) true
 
 -- whether a state may have this storage: its part of refusal 11
-unfoldable pub keepsOf : Storage → ℕ → ℕ → Bool
-keepsOf s capacity end = slotsKept s capacity && doneKept s capacity end && resetKept s
+unfoldable pub isValid : Storage → ℕ → ℕ → Bool
+isValid s capacity end = slotsKept s capacity && doneKept s capacity end && resetKept s

@@ -4,7 +4,7 @@ ghost use lib.ListN.{set};
 ghost use Rattle.storage.specs.Storage.{number, isReset, isRunning, isPaused, isDone, atRest};
 ghost use Rattle.storage.specs.Storage.{emptiedStorage, startedOf, pausedOf, readiedOf, tickedOf, triggeredOf};
 ghost use Rattle.storage.specs.Storage.{nextSlot, heldAfter, fullInOneShot, storedOf, oldestOf, holdsOf};
-ghost use Rattle.storage.specs.Storage.{slotsKept, doneKept, resetKept, keepsOf};
+ghost use Rattle.storage.specs.Storage.{slotsKept, doneKept, resetKept, isValid};
 
 // What storage is doing.
 pub enum Phase {
@@ -39,7 +39,7 @@ pub struct Sampling {
 }
 
 // What a trigger or a tick does.
-pub struct Sampled {
+pub struct StorageStep {
     // Storage after it.
     pub storage: Storage,
     // Whether the latest pair is stored, in the slot `next` of the storage before.
@@ -196,20 +196,20 @@ pub fn stored(s: Storage, capacity: u32, end: u32) -> Storage
 }
 
 // What a tick does: it stores if storage is running at any rate but the external one.
-pub fn ticked(s: Storage, capacity: u32, by: Sampling) -> Sampled
+pub fn ticked(s: Storage, capacity: u32, by: Sampling) -> StorageStep
     ensures { λ r. ⌜ r ≡ tickedOf s capacity by ⌝ }
 {
     if is_running(s) {
         if by.rate != EXTERNAL_RATE {
             let after = stored(s, capacity, by.end);
-            return Sampled {
+            return StorageStep {
                 storage: after,
                 stores: true,
                 bits: 0,
             };
         }
     }
-    Sampled {
+    StorageStep {
         storage: s,
         stores: false,
         bits: 0,
@@ -227,33 +227,33 @@ fn readied(s: Storage, by: Sampling) -> Storage
 }
 
 // What a trigger does: it starts storage where TSTR says so, then stores if storage is running at the external rate.
-pub fn triggered(s: Storage, capacity: u32, by: Sampling) -> Sampled
+pub fn triggered(s: Storage, capacity: u32, by: Sampling) -> StorageStep
     ensures { λ r. ⌜ r ≡ triggeredOf s capacity by ⌝ }
 {
     let ready = readied(s, by);
     if is_running(ready) {
         if by.rate == EXTERNAL_RATE {
             let after = stored(ready, capacity, by.end);
-            return Sampled {
+            return StorageStep {
                 storage: after,
                 stores: true,
                 bits: TRIGGERED,
             };
         }
         if is_running(s) {
-            return Sampled {
+            return StorageStep {
                 storage: ready,
                 stores: false,
                 bits: 0,
             };
         }
-        return Sampled {
+        return StorageStep {
             storage: ready,
             stores: false,
             bits: TRIGGERED,
         };
     }
-    Sampled {
+    StorageStep {
         storage: ready,
         stores: false,
         bits: 0,
@@ -309,8 +309,8 @@ fn reset_kept(s: Storage) -> bool
 }
 
 // Whether a state may have this storage: its part of refusal 11.
-pub fn keeps(s: Storage, capacity: u32, end: u32) -> bool
-    ensures { λ r. ⌜ r ≡ keepsOf s capacity end ⌝ }
+pub fn is_valid(s: Storage, capacity: u32, end: u32) -> bool
+    ensures { λ r. ⌜ r ≡ isValid s capacity end ⌝ }
 {
     slots_kept(s, capacity) & done_kept(s, capacity, end) & reset_kept(s)
 }

@@ -25,7 +25,7 @@ pub fn index_of_word(words: &[u8], word: &[u8]) -> usize {
     let mut index = 0;
     let mut start = 0;
     while start < words.len() {
-        let end = divide::end_of(words, b' ', start);
+        let end = split::end_of(words, b' ', start);
         if check::same(&words[start..end], word) {
             return index;
         }

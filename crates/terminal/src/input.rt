@@ -9,7 +9,7 @@ pub struct Line {
     // How many bytes the line has; one past the buffer's length where the buffer is too small for it.
     pub len: usize,
     // Whether the LF at its end was read. If not, the input has ended.
-    pub ended: bool,
+    pub ending: bool,
     // Where the bytes that were read and are part of no line yet start in the chunk.
     pub rest_start: usize,
     // Where these bytes end in the chunk.
@@ -20,7 +20,7 @@ pub struct Line {
 pub fn before_first_line() -> Line {
     Line {
         len: 0,
-        ended: false,
+        ending: false,
         rest_start: 0,
         rest_end: 0,
     }
@@ -53,11 +53,11 @@ fn append(line: &mut [u8], len: usize, part: &[u8]) -> usize {
 // The line with the bytes of the chunk that are part of no line yet, up to the line's end.
 fn append_rest(latest: Line, chunk: &[u8], line: &mut [u8]) -> Line {
     let rest = bytes_from(first_bytes(chunk, latest.rest_end), latest.rest_start);
-    let n = divide::span_of(rest, b'\n');
+    let n = split::span_of(rest, b'\n');
     let len = append(line, latest.len, &rest[0..n]);
     Line {
         len,
-        ended: n < rest.len(),
+        ending: n < rest.len(),
         rest_start: std::num::wrapping_add_usize(latest.rest_start, n + 1),
         rest_end: latest.rest_end,
     }
@@ -68,15 +68,15 @@ fn append_rest(latest: Line, chunk: &[u8], line: &mut [u8]) -> Line {
 pub fn next_line(latest: Line, chunk: &mut [u8], line: &mut [u8]) -> Line {
     let mut next = Line {
         len: 0,
-        ended: false,
+        ending: false,
         rest_start: latest.rest_start,
         rest_end: latest.rest_end,
     };
     let mut turns = u64::MAX;
     while turns > 0 {
         next = append_rest(next, chunk, line);
-        let ended = next.ended;
-        if ended {
+        let ending = next.ending;
+        if ending {
             return next;
         }
         let n = next_chunk(chunk);

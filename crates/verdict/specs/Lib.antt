@@ -1,3 +1,3 @@
 -- A verdict in document 01's numbers, as one number, and what is read off it.
-pub mod Said
-pub mod Number
+pub mod Numbers
+pub mod PackedNumber

@@ -1,8 +1,8 @@
 // The script check's verdict, and the same as one number for a caller in C.
 ghost use mathlib.Core.Path.{_≡_};
 ghost use Prim.Native.Nat.{min};
-ghost use Rattle.verdict.specs.Number.{lineMost, placeMost, packed, numberOf};
-use refusal::Refusal;
+ghost use Rattle.verdict.specs.PackedNumber.{lineMost, placeMost, packed, packedNumber};
+use outcome::Refusal;
 
 // What the script check says.
 pub enum Verdict {
@@ -25,7 +25,7 @@ const LINE_UNIT: u64 = 0x100_0000;
 const PLACE_UNIT: u64 = 0x100;
 
 // The line as the number holds it: one past the largest counts as the largest.
-fn line_told(line: usize) -> u64
+fn line_capped(line: usize) -> u64
     ensures { λ r. ⌜ r ≡ min line lineMost ⌝ }
 {
     let n = line as u64;
@@ -36,7 +36,7 @@ fn line_told(line: usize) -> u64
 }
 
 // The place as the number holds it: one past the largest counts as the largest.
-fn place_told(place: u32) -> u32
+fn place_capped(place: u32) -> u32
     ensures { λ r. ⌜ r ≡ min place placeMost ⌝ }
 {
     if PLACE_MOST < place {
@@ -49,17 +49,17 @@ fn place_told(place: u32) -> u32
 fn pack(line: usize, place: u32, number: u8) -> u64
     ensures { λ r. ⌜ r ≡ packed line place number ⌝ }
 {
-    line_told(line) * LINE_UNIT + place_told(place) as u64 * PLACE_UNIT + number as u64
+    line_capped(line) * LINE_UNIT + place_capped(place) as u64 * PLACE_UNIT + number as u64
 }
 
 // A verdict as one number: 0 where nothing is refused.
-pub fn number_of(verdict: Verdict) -> u64
-    ensures { λ r. ⌜ r ≡ numberOf verdict ⌝ }
+pub fn packed_number(verdict: Verdict) -> u64
+    ensures { λ r. ⌜ r ≡ packedNumber verdict ⌝ }
 {
     match verdict {
         Verdict::Fine => 0,
         Verdict::No(line, place, refusal) => {
-            let meaning = refusal::meaning_of(refusal);
+            let meaning = outcome::code_of(refusal);
             pack(line, place, meaning.number)
         }
     }

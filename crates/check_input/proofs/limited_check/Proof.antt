@@ -12,24 +12,24 @@ use Rattle.check_input.proofs.limited_check.Tie as tie
 returns : tie.Need-returns
 unfolding limitedCheck
 returns c =
-    let told = c .before .before in
-    rw (le-ltb 60000 (length (told .before .before .args .script .now)) (omega arith), sym (told .of-capacity .ensures))
+    let report = c .before .before in
+    rw (le-ltb 60000 (length (report .before .before .args .script .now)) (omega arith), sym (report .of-capacity .ensures))
     (c .check .ensures .0)
 
 -- a script of more than the limit
 returns-2 : tie.Need-returns-2
 unfolding limitedCheck
 returns-2 c =
-    let told = c .before .before .before in
-    let fits = rw (told .of-capacity .ensures) at (sym (c .before .model-fits .ensures) ∙ c .if2 .taken) in
-    rw (lt-ltb 60000 (length (told .before .before .args .script .now)) (omega arith), fits)
+    let report = c .before .before .before in
+    let fits = rw (report .of-capacity .ensures) at (sym (c .before .model-fits .ensures) ∙ c .if2 .taken) in
+    rw (lt-ltb 60000 (length (report .before .before .args .script .now)) (omega arith), fits)
 
 returns-3 : tie.Need-returns-3
 unfolding limitedCheck checkOf
 returns-3 c =
-    let told = c .before .before .before in
-    let fits = rw (told .of-capacity .ensures) at (sym (c .before .model-fits .ensures) ∙ c .if2 .left) in
-    rw (lt-ltb 60000 (length (told .before .before .args .script .now)) (omega arith), fits)
+    let report = c .before .before .before in
+    let fits = rw (report .of-capacity .ensures) at (sym (c .before .model-fits .ensures) ∙ c .if2 .left) in
+    rw (lt-ltb 60000 (length (report .before .before .args .script .now)) (omega arith), fits)
 
 pub limited-check-spec : {M : Type 1} → statement M
 limited-check-spec =

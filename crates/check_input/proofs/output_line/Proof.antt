@@ -15,7 +15,7 @@ outputs h text e =
     record {
       kept = e;
       whole = λ input lent long kept.
-          e ∙ ap (λ k. verdictText (verdictFrom k)) kept ∙ ap verdictText (whole .said input lent long);
+          e ∙ ap (λ k. verdictText (verdictFrom k)) kept ∙ ap verdictText (whole .verdictNumbers input lent long);
     }
 
 returns : tie.Need-returns

@@ -1,14 +1,14 @@
 -- `event::occur` meets its contract. Assumes nothing.
 use mathlib.Core.List.{[]}
-use Rattle.reply.proofs.After.{silent-meets}
-use Rattle.event.specs.Event.{happenedOf, eventOf}
+use Rattle.reply_buffer.proofs.After.{silent-meets}
+use Rattle.event.specs.Event.{eventEffect, eventOf}
 use borrow.Author.Needs.{needs}
 use Rattle.event.proofs.occur.Statement.{statement}
 use Rattle.event.proofs.occur.Tie as tie
 
 returns : tie.Need-returns
 unfolding eventOf
-returns c = rw (c .before .before .e .given .1, c .new-pair .ensures) (silent-meets happenedOf _ _ _ _ [])
+returns c = rw (c .before .before .e .given .1, c .new-pair .ensures) (silent-meets eventEffect _ _ _ _ [])
 
 returns-2 : tie.Need-returns-2
 unfolding eventOf
@@ -26,11 +26,11 @@ returns-3 c =
 
 returns-4 : tie.Need-returns-4
 unfolding eventOf
-returns-4 c = rw (c .before .before .e2 .given .1, c .measured .ensures) (silent-meets happenedOf _ _ _ _ [])
+returns-4 c = rw (c .before .before .e2 .given .1, c .measured .ensures) (silent-meets eventEffect _ _ _ _ [])
 
 returns-5 : tie.Need-returns-5
 unfolding eventOf
-returns-5 c = rw (c .before .before .e3 .given .1, c .raised .ensures) (silent-meets happenedOf _ _ _ _ [])
+returns-5 c = rw (c .before .before .e3 .given .1, c .raised .ensures) (silent-meets eventEffect _ _ _ _ [])
 
 pub occur-spec : {M : Type 1} → statement M
 occur-spec =

@@ -2,7 +2,7 @@
 use Rattle.event.specs.Event.{sampledIn}
 use mathlib.Core.Path.{sym}
 use mathlib.Core.List.{[]}
-use Rattle.reply.proofs.Over.{over-none}
+use Rattle.reply_buffer.proofs.Over.{over-none}
 use borrow.Author.Needs.{needs}
 use Rattle.event.proofs.sample.Statement.{statement}
 use Rattle.event.proofs.sample.Tie as tie

@@ -2,7 +2,7 @@
 use mathlib.Core.Path.{sym, _∙_}
 use native.Mathlib.Omega.{arith}
 use borrow.Author.Needs.{needs}
-use Rattle.change.specs.Change.{stateAfter}
+use Rattle.effect.specs.Effect.{stateAfter}
 use Rattle.line.proofs.Effects.{written-fits, done, no-room, not-allowed}
 use Rattle.line.proofs.perform.Statement.{statement}
 use Rattle.line.proofs.perform.Tie as tie
@@ -29,7 +29,7 @@ returns c =
         sampled .storage-after .ensures,
       )
           (done (a .waiting) (a .c .kind) (a .s) _ _ out
-          (sym (allowed .before .allows .ensures) ∙ allowed .if1 .taken) (fits .if2 .taken)),
+          (sym (allowed .before .is-allowed .ensures) ∙ allowed .if1 .taken) (fits .if2 .taken)),
       rw (sent .kept .1 .1 .1 .1 .1 .0) (written-fits _ out),
     )
 
@@ -41,7 +41,7 @@ returns-2 c =
     let a = allowed .before .before .before .before .before .before .args in (
       rw (c .refused .ensures)
           (no-room (a .waiting) (a .c .kind) (a .s) _ _ (sent .ensures)
-          (sym (allowed .before .allows .ensures) ∙ allowed .if1 .taken) (left .if2 .left)),
+          (sym (allowed .before .is-allowed .ensures) ∙ allowed .if1 .taken) (left .if2 .left)),
       rw (c .refused .ensures) (omega arith),
     )
 
@@ -51,7 +51,7 @@ returns-3 c =
     let a = left .before .before .before .before .before .before .args in (
       rw (c .refused2 .ensures)
           (not-allowed (a .waiting) (a .c .kind) (a .s) _ _ _
-          (sym (left .before .allows .ensures) ∙ left .if1 .left)),
+          (sym (left .before .is-allowed .ensures) ∙ left .if1 .left)),
       rw (c .refused2 .ensures) (omega arith),
     )
 

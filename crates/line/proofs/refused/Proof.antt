@@ -4,7 +4,7 @@ use Rattle.line.proofs.refused.Statement.{statement}
 use Rattle.line.proofs.refused.Tie as tie
 
 returns : tie.Need-returns
-returns c = rw (c .marked .ensures)
+returns c = rw (c .with-error-bit .ensures)
 
 pub refused-spec : {M : Type 1} → statement M
 refused-spec = tie.close (tie.spec (λ c κs. search needs) returns)

@@ -3,7 +3,7 @@ use Prim.Native.Nat.{_+_, _-_, _<_}
 use mathlib.Core.Path.{refl, _∙_}
 use native.Mathlib.Omega.{arith}
 use lib.ListN.{length}
-use Rattle.line.proofs.Turns.{OnWay, stopped, ended, again}
+use Rattle.line.proofs.LoopStep.{OnWay, stopped, ending, again}
 use Rattle.line.proofs.run.Statement.{statement}
 use Rattle.line.proofs.run.Tie as tie
 
@@ -70,7 +70,7 @@ returns-2 c =
     let turn = c .before .before .before .before .before .before .before .before in
     let ends = turn .before .before .before .before .before in
     let step = turn .step in
-    ended (ends .before .loop .inv) (ends .end-of .result) (ends .end-of .ensures .0) (step .result)
+    ending (ends .before .loop .inv) (ends .end-of .result) (ends .end-of .ensures .0) (step .result)
     (step .last .1 .1 .0) (step .last .1 .1 .1 .0) (step .last .1 .1 .1 .1 .0) (step .ensures .0) (step .ensures .1 .0)
     (step .ensures .1 .1) (c .before .if1 .left) (c .if2 .taken)
 

@@ -3,8 +3,8 @@ use mathlib.Core.Path.{sym}
 use native.Mathlib.Omega.{arith}
 use borrow.Author.Needs.{needs}
 use Rattle.line.specs.Perform.{commandOf}
-use Rattle.line.specs.Parts.{performedOf}
-use Rattle.reply.proofs.After.{silent-meets}
+use Rattle.line.specs.Parts.{commandResult}
+use Rattle.reply_buffer.proofs.After.{silent-meets}
 use Rattle.line.proofs.take_command.Statement.{statement}
 use Rattle.line.proofs.take_command.Tie as tie
 
@@ -12,14 +12,14 @@ returns : tie.Need-returns
 unfolding commandOf
 returns c =
     rw (sym (c .before .before .parse .ensures), c .enum-told .given .1)
-    (silent-meets performedOf _ _ _ _ _, omega arith)
+    (silent-meets commandResult _ _ _ _ _, omega arith)
 
 returns-2 : tie.Need-returns-2
 unfolding commandOf
 returns-2 c =
     let read = c .before .before in
     rw (c .refused .ensures, sym (read .before .before .parse .ensures), read .parsed .given .1)
-    (silent-meets performedOf _ _ _ _ _, omega arith)
+    (silent-meets commandResult _ _ _ _ _, omega arith)
 
 returns-3 : tie.Need-returns-3
 unfolding commandOf

@@ -1,6 +1,6 @@
 -- `lockin::end_guarded` meets its contract: by whether it is refused. Assumes nothing.
 use borrow.Author.Needs.{needs}
-use Rattle.reply.proofs.After.{silent-meets}
+use Rattle.reply_buffer.proofs.After.{silent-meets}
 use Rattle.lockin.specs.Calls.{guarded}
 use Rattle.lockin.specs.Parts.{resultOf}
 use Rattle.lockin.proofs.end_guarded.Statement.{statement}

@@ -1,6 +1,6 @@
 -- `lockin::end_line` meets its contract: by what ended. Assumes nothing.
 use borrow.Author.Needs.{needs}
-use Rattle.reply.proofs.After.{silent-meets}
+use Rattle.reply_buffer.proofs.After.{silent-meets}
 use Rattle.lockin.specs.Calls.{lineEnd}
 use Rattle.lockin.specs.Parts.{resultOf}
 use Rattle.lockin.proofs.end_line.Statement.{statement}
@@ -19,8 +19,8 @@ returns-2 c =
 returns-3 : tie.Need-returns-3
 unfolding lineEnd
 returns-3 c =
-    let marked = c .before in
-    rw (c .tell2 .ensures, marked .marked .ensures, marked .before .enum-told3 .given .1)
+    let with-error-bit = c .before in
+    rw (c .tell2 .ensures, with-error-bit .with-error-bit .ensures, with-error-bit .before .enum-told3 .given .1)
     (silent-meets resultOf _ _ _ _ _)
 
 pub end-line-spec : {M : Type 1} → statement M

@@ -14,26 +14,26 @@ long start = search needs
 
 part-end-guarded-end : tie.Need-part-end-guarded-end
 part-end-guarded-end c =
-    let ended = c .before in
-    let step = ended .before .before .before in
+    let ending = c .before in
+    let step = ending .before .before .before in
     let start = step .before .before .before .before .before .before .before .before in
     let m = start .args .m in
-    let stored : length (ended .before .store .last .0) ≡ 256 =
-    rw (ended .before .store .ensures)
+    let stored : length (ending .before .store .last .0) ≡ 256 =
+    rw (ending .before .store .ensures)
     (stored-length (step .step-guarded .result .stores) (m .queue .len) _ (m .queue .bytes) ∙ long start) in
-    omega (arith, ended .line-end .ensures)
+    omega (arith, ending .end-index .ensures)
 
 returns : tie.Need-returns
 returns c =
     let done = c .before .before .before .before .before .before .before .before in
-    let ended = done .before .before .before .before .before .before in
-    let step = ended .before .before .before in
+    let ending = done .before .before .before .before .before .before in
+    let step = ending .before .before .before in
     let guard = step .before in
     let start = guard .before .before .before .before .before .before .before in
     let args = start .args in
     byte-answers _ (args .b) (args .mark) (args .m) _ _ (step .step-guarded .result) (long start)
-    (guard .guard .ensures) (step .step-guarded .ensures) (ended .before .store .ensures) (ended .line-end .ensures)
-    (rw (sub-zero (ended .line-end .result)) at (done .end-guarded .ensures))
+    (guard .guard .ensures) (step .step-guarded .ensures) (ending .before .store .ensures) (ending .end-index .ensures)
+    (rw (sub-zero (ending .end-index .result)) at (done .end-guarded .ensures))
 
 pub take-byte-spec : {M : Type 1} → statement M
 take-byte-spec =

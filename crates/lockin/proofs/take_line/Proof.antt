@@ -8,13 +8,13 @@ use Rattle.lockin.proofs.take_line.Tie as tie
 returns : tie.Need-returns
 returns c =
     let done = c .before .before .before .before .before .before .before .before in
-    let ended = done .before .before .before .before .before in
-    let guard = ended .before .before in
+    let ending = done .before .before .before .before .before in
+    let guard = ending .before .before in
     let start = guard .before .before .before .before .before in
     let args = start .before .before .before .before .args in
-    line-answers _ _ (args .m) _ _ (guard .guard .ensures) (ended .before .whole-end .ensures)
-    (ended .line-end .ensures)
-    (rw (sub-zero (ended .line-end .result)) at (done .end-guarded .ensures))
+    line-answers _ _ (args .m) _ _ (guard .guard .ensures) (ending .before .whole-end .ensures)
+    (ending .end-index .ensures)
+    (rw (sub-zero (ending .end-index .result)) at (done .end-guarded .ensures))
 
 pub take-line-spec : {M : Type 1} → statement M
 take-line-spec =

@@ -2,25 +2,25 @@
 use mathlib.Core.Path.{refl}
 use borrow.Author.Needs.{needs}
 use borrow.Author.Tests.{lt-ltb, le-ltb}
-use Rattle.queue.specs.Queue.{addedOf, tooLongOf}
+use Rattle.queue.specs.Queue.{appendedOf, tooLongOf}
 use Rattle.queue.proofs.added.Statement.{statement}
 use Rattle.queue.proofs.added.Tie as tie
 
 returns : tie.Need-returns
-unfolding addedOf tooLongOf
-returns c = record { fed = λ bytes. rw (le-ltb _ _ (c .if1 .taken)); run = λ bytes. refl }
+unfolding appendedOf tooLongOf
+returns c = record { received = λ bytes. rw (le-ltb _ _ (c .if1 .taken)); run = λ bytes. refl }
 
 returns-2 : tie.Need-returns-2
-unfolding addedOf
+unfolding appendedOf
 returns-2 c =
     let room = lt-ltb _ _ (c .before .if1 .left) in
-    record { fed = λ bytes. rw (room, c .if2 .taken); run = λ bytes. refl }
+    record { received = λ bytes. rw (room, c .if2 .taken); run = λ bytes. refl }
 
 returns-3 : tie.Need-returns-3
-unfolding addedOf
+unfolding appendedOf
 returns-3 c =
     let room = lt-ltb _ _ (c .before .if1 .left) in
-    record { fed = λ bytes. rw (room, c .if2 .left); run = λ bytes. refl }
+    record { received = λ bytes. rw (room, c .if2 .left); run = λ bytes. refl }
 
 pub added-spec : {M : Type 1} → statement M
 added-spec =

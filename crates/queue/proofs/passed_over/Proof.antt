@@ -28,7 +28,7 @@ loop-again c =
     let s = c .before .before .before .before .before in
     let a = s .args in
     let v = c .before .before .before .before .loop in
-    let none = c .before .sixteen-end-none .ensures .0 (c .if2 .taken) in
+    let none = c .before .block-ends-none .ensures .0 (c .if2 .taken) in
     rest-skips (a .port) (a .bytes .now) (a .len) (v .i) (s .pre) 16 none ∙ v .inv
 
 returns-3 : tie.Need-returns-3 Inv-loop μ-loop

@@ -1,15 +1,15 @@
 -- `script::check` meets its contract: 9 first, then line by line. Assumes nothing.
 use mathlib.Core.Path.{_≡_, sym, ap, _∙_}
 use borrow.Author.Needs.{needs}
-use Rattle.verdict.specs.Said.{said}
+use Rattle.verdict.specs.Numbers.{verdictNumbers}
 use Rattle.verdict.specs.declared.Verdict.{Verdict}
 use Rattle.script.specs.Check.{checkOf}
 use Rattle.script.proofs.check.Statement.{statement}
 use Rattle.script.proofs.check.Tie as tie
 
 -- a verdict, and the same in document 01's numbers
-in-numbers : {v w : Verdict} → v ≡ w → (v ≡ w) × (said v ≡ said w)
-in-numbers e = (e, ap said e)
+in-numbers : {v w : Verdict} → v ≡ w → (v ≡ w) × (verdictNumbers v ≡ verdictNumbers w)
+in-numbers e = (e, ap verdictNumbers e)
 
 pub check-spec : {M : Type 1} → statement M
 unfolding checkOf

@@ -5,7 +5,7 @@ use native.Mathlib.Omega.{arith}
 use borrow.Author.Needs.{needs}
 use lib.ListN.{getD}
 use Rattle.settings.specs.Table.{entries}
-use Rattle.settings.specs.Allowed.{every}
+use Rattle.settings.specs.Valid.{every}
 use Rattle.settings.proofs.Parts.{inRange, range-more}
 use Rattle.settings.proofs.in_ranges.Statement.{statement}
 use Rattle.settings.proofs.in_ranges.Tie as tie

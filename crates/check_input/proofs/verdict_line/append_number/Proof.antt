@@ -2,7 +2,7 @@
 use mathlib.Core.Path.{_∙_}
 use mathlib.Core.List.{[], _∷_, append-assoc}
 use native.Mathlib.Omega.{arith}
-use Rattle.text.specs.Text.{plain}
+use Rattle.format.specs.Text.{plain}
 use Rattle.check_input.specs.VerdictLine.{lineBytes}
 use Rattle.check_input.proofs.Decimal.{decimal-writes}
 use borrow.Author.Needs.{needs}

@@ -2,8 +2,8 @@
 use Prim.Native.Nat.{ℕ}
 use mathlib.Core.Path.{_≡_, _∙_}
 use mathlib.Core.List.{List, _++_, append-assoc}
-use Rattle.divide.specs.Ascii.{bytes}
-use Rattle.refusal.specs.Meaning.{meaningOf}
+use Rattle.split.specs.Ascii.{bytes}
+use Rattle.outcome.specs.Code.{codeOf}
 use Rattle.check_input.specs.VerdictLine.{lineEnd, spaced, saidText}
 use borrow.Author.Needs.{needs}
 use Rattle.check_input.proofs.verdict_line.no_line.Statement.{statement}
@@ -23,8 +23,8 @@ returns c =
     let a = meaning .before .args in
     c .append .ensures .0
     ∙ rw (third .append-number3 .ensures .0, second .append-number2 .ensures .0, first .append-number .ensures .0)
-    (rw (begun .line-of-bytes .ensures .0, meaning .meaning-of .ensures)
-    (regroup (bytes "no") (spaced (a .line)) (spaced (a .place)) (spaced (meaningOf (a .refusal) .number)) lineEnd))
+    (rw (begun .line-of-bytes .ensures .0, meaning .code-of .ensures)
+    (regroup (bytes "no") (spaced (a .line)) (spaced (a .place)) (spaced (codeOf (a .refusal) .number)) lineEnd))
 
 pub no-line-spec : {M : Type 1} → statement M
 no-line-spec =

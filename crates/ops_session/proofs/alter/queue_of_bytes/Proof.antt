@@ -6,10 +6,10 @@ use Rattle.ops_session.proofs.alter.queue_of_bytes.Statement.{statement
 use Rattle.ops_session.proofs.alter.queue_of_bytes.Tie as tie
 
 abbrev Inv-loop : tie.InvT-loop
-Inv-loop bytes dropping first₀ i₀ first i = i ≤ length bytes
+Inv-loop bytes discarding first₀ i₀ first i = i ≤ length bytes
 
 abbrev μ-loop : tie.MeasureT-loop
-μ-loop bytes dropping first₀ i₀ first i = length bytes - i
+μ-loop bytes discarding first₀ i₀ first i = length bytes - i
 
 pub queue-of-bytes-spec : {M : Type 1} → statement M
 queue-of-bytes-spec =

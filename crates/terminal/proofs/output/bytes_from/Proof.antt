@@ -3,7 +3,7 @@ use mathlib.Core.Path.{sym}
 use native.Mathlib.Omega.{arith}
 use lib.ListN.{drop-of-length-le}
 use borrow.Author.Needs.{needs}
-use Rattle.divide.proofs.Span.{rest-from}
+use Rattle.split.proofs.Span.{rest-from}
 use Rattle.terminal.proofs.output.bytes_from.Statement.{statement}
 use Rattle.terminal.proofs.output.bytes_from.Tie as tie
 

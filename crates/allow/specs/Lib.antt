@@ -1,2 +1,0 @@
--- What a command needs of the state.
-pub mod Allows

@@ -1,2 +1,0 @@
--- Laws on replies.
-pub mod Sends

@@ -1,2 +1,0 @@
--- What a query replies.
-pub mod Reply

@@ -1,2 +1,0 @@
--- What a command changes.
-pub mod Change

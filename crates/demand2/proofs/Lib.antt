@@ -1,0 +1,9 @@
+-- Demand 2, proved.
+pub mod Says
+pub mod Written
+pub mod AfterSet
+pub mod Lines
+pub mod Parsing
+pub mod Entries
+pub mod Same
+pub mod Demand2

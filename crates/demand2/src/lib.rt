@@ -1,0 +1,1 @@
+// Demand 2: replies, settings and lines of several commands. No code: specs/ and proofs/.

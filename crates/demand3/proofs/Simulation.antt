@@ -1,0 +1,189 @@
+-- A course's moving part lies between those of the low and the high course, under the settings that all have: one command keeps it so.
+use Prim.Native.Nat.{ℕ, _+_, _≤_}
+use native.Mathlib.Omega.{arith}
+use native.Mathlib.Nat.{mul-le-mul-left}
+use mathlib.Core.Bool.{Bool, true, false, cond, not, _&&_, _||_, and-eq-true-iff, false≢true}
+use mathlib.Core.Path.{_≡_, refl, sym, _∙_}
+use lib.Dec.{leb, eqb}
+use borrow.Author.Tests.{leb-true, le-leb, ltb-false, le-ltb, not-true}
+use Rattle.settings.specs.Table.{fmod, freq, harm, oflt, send, startSettings, nextEntry, valueOf, withValue}
+use Rattle.settings.specs.Frequency.{hertz, isInternal, inForce, detectionOf}
+use Rattle.settings.specs.Frequency.{withinLimit, above200, timeConstantStands, externalStart}
+use Rattle.settings.specs.Valid.{valuesValid}
+use Rattle.settings.specs.declared.Settings.{Settings}
+use Rattle.settings.proofs.Invariant.{with-keeps}
+use Rattle.settings.proofs.Start.{start-valid}
+use Rattle.settings.proofs.Values.{detection-other}
+use Rattle.storage.specs.Storage.{triggerStarts, isReset, emptiedStorage, startedOf, pausedOf, readiedOf, triggeredOf, holdsOf}
+use Rattle.storage.specs.declared.Storage.{Storage}
+use Rattle.storage.specs.declared.Sampling.{Sampling}
+use Rattle.mnemonic.specs.declared.Action.{Action}
+use Rattle.mnemonic.specs.declared.Action.the-variants.{Reset, Clear, Start, Pause, Empty, Trigger}
+use Rattle.command.specs.declared.SetArgument.{SetArgument}
+use Rattle.command.specs.declared.SetArgument.the-variants as set
+use Rattle.command.specs.declared.QueryArgument.{QueryArgument}
+use Rattle.command.specs.declared.QueryArgument.the-variants as query
+use Rattle.command.specs.declared.Kind.{Kind}
+use Rattle.command.specs.declared.Kind.the-variants.{Set, Query, Act}
+use Rattle.state.specs.State.{withStorage, samplingOf, startAcquisition}
+use Rattle.state.specs.declared.Acquisition.{Acquisition}
+use Rattle.state.proofs.Sound.{tuning}
+use Rattle.precondition.specs.Allowed.{staysWithinLimit, valueAllowed, setAllowed, queryAllowed, isAllowed}
+use Rattle.precondition.proofs.Limit.{limit-after}
+use Rattle.effect.specs.Effect.{withPair, setIn, restoredBy, settingsAfter, storageBy, storageAfter, externalBy, externalAfter, acquisitionAfter}
+use Rattle.invariant.proofs.Storable.{Storable}
+use Rattle.demand3.proofs.StorageOrder.{Low, low-emptied, low-started, low-paused, low-triggered, reset-started, reset-paused, triggered-reset}
+
+-- the moving part m, that of the low course and that of the high one, under the settings x
+pub record Between (capacity : ℕ) (x : Settings) (m lo hi : Acquisition) : Type 0 where
+  pub kept : valuesValid x ≡ true
+  pub limit : detectionOf x (hi .external) ≤ hertz 102000
+  pub external : m .external ≤ hi .external
+  pub low : Low capacity (lo .storage) (m .storage)
+  pub high : isReset (hi .storage) ≡ true → isReset (m .storage) ≡ true
+
+-- ---- frequencies
+
+cond-mono : (t : Bool) (f a b : ℕ) → a ≤ b → cond t f a ≤ cond t f b
+cond-mono true f a b h = omega arith
+cond-mono false f a b h = h
+
+detection-mono : (x : Settings) (f g : ℕ) → f ≤ g → detectionOf x f ≤ detectionOf x g
+unfolding detectionOf inForce
+detection-mono x f g h = mul-le-mul-left (valueOf x harm) (cond-mono (isInternal x) (valueOf x freq) f g h)
+
+within-mono : (x : Settings) (f g : ℕ) → f ≤ g → withinLimit (detectionOf x g) ≡ true → withinLimit (detectionOf x f) ≡ true
+within-mono x f g h e = le-leb (detectionOf x f) (hertz 102000) (omega (arith, detection-mono x f g h, leb-true (detectionOf x g) (hertz 102000) e))
+
+stands-mono : (t : Bool) (a b : ℕ) → a ≤ b → t || not (above200 b) ≡ true → t || not (above200 a) ≡ true
+stands-mono true a b h e = refl
+stands-mono false a b h e =
+    let l = ltb-false (hertz 200) b (not-true (above200 b) e) in
+    rw (le-ltb (hertz 200) a (omega arith)) refl
+
+-- ---- a setting
+
+module _ (x : Settings) (m hi : Acquisition) (e v : ℕ) where
+  -- what the high course is not refused, no other one is
+  value-allows : m .external ≤ hi .external → (isReset (hi .storage) ≡ true → isReset (m .storage) ≡ true) → valueAllowed x hi e v ≡ true
+      → valueAllowed x m e v ≡ true
+  unfolding valueAllowed staysWithinLimit
+  value-allows f r = by (eqb e freq) (eqb e harm) (eqb e fmod) (eqb e oflt) (eqb e send) where
+    limited : withinLimit (detectionOf (withValue x e v) (hi .external)) ≡ true → withinLimit (detectionOf (withValue x e v) (m .external)) ≡ true
+    limited = within-mono (withValue x e v) (m .external) (hi .external) f
+
+    by : (a b c d s : Bool)
+        → cond a (isInternal x && withinLimit (detectionOf (withValue x e v) (hi .external)))
+        (cond b (withinLimit (detectionOf (withValue x e v) (hi .external)))
+        (cond c (withinLimit (detectionOf (withValue x e v) (hi .external)))
+        (cond d (timeConstantStands (detectionOf x (hi .external)) v) (cond s (isReset (hi .storage)) true)))) ≡ true
+        → cond a (isInternal x && withinLimit (detectionOf (withValue x e v) (m .external)))
+        (cond b (withinLimit (detectionOf (withValue x e v) (m .external)))
+        (cond c (withinLimit (detectionOf (withValue x e v) (m .external)))
+        (cond d (timeConstantStands (detectionOf x (m .external)) v) (cond s (isReset (m .storage)) true)))) ≡ true
+    by true b c d s p =
+        let q = and-eq-true-iff (isInternal x) (withinLimit (detectionOf (withValue x e v) (hi .external))) .0 p in
+        and-eq-true-iff (isInternal x) (withinLimit (detectionOf (withValue x e v) (m .external))) .1 (q .0, limited (q .1))
+    by false true c d s p = limited p
+    by false false true d s p = limited p
+    by false false false true s p = stands-mono (leb v 13) _ _ (detection-mono x (m .external) (hi .external) f) p
+    by false false false false true p = r p
+    by false false false false false p = refl
+
+-- ---- commands
+
+-- a command that neither the low nor the high course refuses
+abbrev pub Goes : ℕ → Settings → (m lo hi : Acquisition) → Kind → Type 0
+Goes capacity x m lo hi kind =
+    (isAllowed x m kind ≡ true)
+    × Between capacity (settingsAfter kind x) (acquisitionAfter kind x m capacity) (acquisitionAfter kind x lo capacity) (acquisitionAfter kind x hi capacity)
+
+start-between : (capacity : ℕ) → Between capacity startSettings startAcquisition startAcquisition startAcquisition
+start-between capacity =
+    let k = tuning startSettings externalStart start-valid in
+    record { kept = k .values; limit = leb-true _ _ (k .limit); external = omega arith; low = low-emptied capacity; high = λ e. e }
+
+-- *RST in any state
+pub reset-goes : (capacity : ℕ) (x : Settings) (m lo hi : Acquisition) → Goes capacity x m lo hi (Act Reset)
+unfolding isAllowed settingsAfter restoredBy acquisitionAfter externalAfter externalBy storageAfter storageBy
+reset-goes capacity x m lo hi = (refl, start-between capacity)
+
+module _ (capacity : ℕ) (x : Settings) (m lo hi : Acquisition) (k : Between capacity x m lo hi) where
+  -- other settings, at which the high course keeps the limit
+  with-settings : (y : Settings) → valuesValid y ≡ true → detectionOf y (hi .external) ≤ hertz 102000 → Between capacity y m lo hi
+  with-settings y p q = record { kept = p; limit = q; external = k .external; low = k .low; high = k .high }
+
+  with-storage : (m′ lo′ hi′ : Storage) → Low capacity lo′ m′ → (isReset hi′ ≡ true → isReset m′ ≡ true)
+      → Between capacity x (withStorage m′ m) (withStorage lo′ lo) (withStorage hi′ hi)
+  with-storage m′ lo′ hi′ l r = record { kept = k .kept; limit = k .limit; external = k .external; low = l; high = r }
+
+  set-goes : (a : SetArgument) → Storable (Set a) → isAllowed x hi (Set a) ≡ true → Goes capacity x m lo hi (Set a)
+  unfolding isAllowed setAllowed settingsAfter setIn withPair acquisitionAfter externalAfter storageAfter
+  set-goes (set.Value e v) s h = (
+    value-allows x m hi e v (k .external) (k .high) h,
+    with-settings (withValue x e v) (with-keeps x e v (k .kept) s)
+        (leb-true _ _ (limit-after x hi e v (le-leb _ _ (k .limit)) h)),
+  )
+  set-goes (set.Pair e v w) s h = (
+    refl,
+    with-settings (withValue (withValue x e v) (nextEntry e) w)
+        (with-keeps (withValue x e v) (nextEntry e) w (with-keeps x e v (k .kept) (s .first)) (s .second))
+        (rw (
+          detection-other (withValue x e v) (nextEntry e) w (λ q. omega arith) (λ q. omega arith) (λ q. omega arith) (hi .external),
+          detection-other x e v (λ q. omega arith) (λ q. omega arith) (λ q. omega arith) (hi .external),
+        )
+        (k .limit)),
+  )
+  set-goes (set.Enable r v) s h = (refl, k)
+  set-goes (set.EnableBit r i v) s h = (refl, k)
+
+  query-goes : (q : QueryArgument) → isAllowed x lo (Query q) ≡ true → Goes capacity x m lo hi (Query q)
+  unfolding isAllowed queryAllowed settingsAfter acquisitionAfter externalAfter storageAfter holdsOf
+  query-goes (query.Trace form t bin count) h =
+      (le-leb (bin + count) (m .storage .held) (omega (arith, leb-true (bin + count) (lo .storage .held) h, k .low .fewer)), k)
+  query-goes (query.Value e) h = (refl, k)
+  query-goes (query.Pair e) h = (refl, k)
+  query-goes (query.Enable r) h = (refl, k)
+  query-goes (query.EnableBit r i) h = (refl, k)
+  query-goes (query.Status r) h = (refl, k)
+  query-goes (query.StatusBit r i) h = (refl, k)
+  query-goes query.Identity h = (refl, k)
+  query-goes query.Points h = (refl, k)
+
+  readied : (t : Bool) → isReset (cond t (startedOf (hi .storage)) (hi .storage)) ≡ true → isReset (cond t (startedOf (m .storage)) (m .storage)) ≡ true
+  readied true e = absurd (false≢true (sym (reset-started (hi .storage)) ∙ e))
+  readied false e = k .high e
+
+  triggered : (by : Sampling) → isReset (triggeredOf (hi .storage) capacity by .storage) ≡ true → isReset (triggeredOf (m .storage) capacity by .storage) ≡ true
+  unfolding readiedOf
+  triggered by e =
+      triggered-reset capacity by (m .storage)
+      ∙ readied (eqb (by .start) triggerStarts) (sym (triggered-reset capacity by (hi .storage)) ∙ e)
+
+  act-goes : (a : Action) → Goes capacity x m lo hi (Act a)
+  unfolding isAllowed settingsAfter restoredBy acquisitionAfter externalAfter externalBy storageAfter storageBy
+  act-goes Reset = (refl, start-between capacity)
+  act-goes Clear = (refl, k)
+  act-goes Start = (
+    refl,
+    with-storage (startedOf (m .storage)) (startedOf (lo .storage)) (startedOf (hi .storage)) (low-started capacity (lo .storage) (m .storage) (k .low))
+        (λ e. absurd (false≢true (sym (reset-started (hi .storage)) ∙ e))),
+  )
+  act-goes Pause = (
+    refl,
+    with-storage (pausedOf (m .storage)) (pausedOf (lo .storage)) (pausedOf (hi .storage)) (low-paused capacity (lo .storage) (m .storage) (k .low))
+        (λ e. reset-paused (m .storage) ∙ k .high (sym (reset-paused (hi .storage)) ∙ e)),
+  )
+  act-goes Empty = (refl, with-storage emptiedStorage emptiedStorage emptiedStorage (low-emptied capacity) (λ e. e))
+  act-goes Trigger = (
+    refl,
+    with-storage (triggeredOf (m .storage) capacity (samplingOf x) .storage) (triggeredOf (lo .storage) capacity (samplingOf x) .storage)
+        (triggeredOf (hi .storage) capacity (samplingOf x) .storage)
+        (low-triggered capacity (samplingOf x) (lo .storage) (m .storage) (k .low))
+        (triggered (samplingOf x)),
+  )
+
+  pub command-goes : (kind : Kind) → Storable kind → isAllowed x lo kind ≡ true → isAllowed x hi kind ≡ true → Goes capacity x m lo hi kind
+  command-goes (Set a) s l h = set-goes a s h
+  command-goes (Query q) s l h = query-goes q l
+  command-goes (Act a) s l h = act-goes a

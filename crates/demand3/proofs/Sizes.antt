@@ -1,0 +1,261 @@
+-- What the length of a reply depends on, beside the rules of refusal 11: a value for each entry of the table and no
+-- other, registers and enables that are bytes. Commands and the events of the check's two courses keep it.
+use Prim.Native.Nat.{ℕ, _%_, _^_, _≤_, _<_}
+use native.Mathlib.Omega.{arith}
+use mathlib.Core.Bool.{Bool, true, false, cond, _&&_, _||_}
+use mathlib.Core.Path.{_≡_, refl, _∙_}
+use mathlib.Core.List.{List}
+use lib.Bits.{bitOr, or-lt}
+use lib.Dec.{leb, eqb, ltb}
+use lib.ListN.{length, set, length-set}
+use lib.Pow.{pow-lt}
+use borrow.Author.Tests.{ltb-true}
+use Rattle.outcome.specs.Code.{codeOf}
+use Rattle.outcome.specs.declared.Refusal.{Refusal}
+use Rattle.outcome.proofs.Every.{refusal-rule}
+use Rattle.settings.specs.Table.{entries, table, oflt, startSettings, nextEntry}
+use Rattle.settings.specs.Frequency.{isInternal, crossingOf, crosses, lifts}
+use Rattle.settings.specs.declared.Settings.{Settings}
+use Rattle.storage.specs.Storage.{bit6, triggerStores, setsRunning, triggeredOf}
+use Rattle.storage.specs.declared.Storage.{Storage}
+use Rattle.storage.specs.declared.Sampling.{Sampling}
+use Rattle.storage.specs.declared.StorageStep.{StorageStep}
+use Rattle.status.specs.Bits.{withoutBit, withBit}
+use Rattle.status.specs.Status.{registerOf, withRegister, clearedOf, bitCleared, allCleared, withStandard, withLia, enableOf}
+use Rattle.status.specs.Status.{withEnableByte, withEnable, withEnableBit}
+use Rattle.status.specs.declared.Registers.{Registers}
+use Rattle.status.specs.declared.Enables.{Enables}
+use Rattle.mnemonic.specs.declared.Register.{Register}
+use Rattle.mnemonic.specs.declared.Register.the-variants.{Standard, Service, Lia, Errors}
+use Rattle.mnemonic.specs.declared.Action.{Action}
+use Rattle.mnemonic.specs.declared.Action.the-variants.{Reset, Clear, Start, Pause, Empty, Trigger}
+use Rattle.command.specs.declared.SetArgument.{SetArgument}
+use Rattle.command.specs.declared.SetArgument.the-variants as set
+use Rattle.command.specs.declared.QueryArgument.{QueryArgument}
+use Rattle.command.specs.declared.QueryArgument.the-variants as query
+use Rattle.command.specs.declared.Kind.{Kind}
+use Rattle.command.specs.declared.Kind.the-variants.{Set, Query, Act}
+use Rattle.state.specs.State.{withRegisters, samplingOf, detectionNow, crossedFrom, withErrorBit}
+use Rattle.state.specs.Storing.{triggerOf, sampledBy}
+use Rattle.state.specs.declared.State.{State}
+use Rattle.effect.specs.Effect.{withPair, setIn, restoredBy, settingsAfter, storageBy, storageAfter, registersAsked}
+use Rattle.effect.specs.Effect.{registersBy, registersAfter, enablesSet, enablesAfter, changedBy, stateAfter}
+use Rattle.effect.specs.Effect as change
+use Rattle.event.specs.Event.{takesFrequency, withExternal, notTaken, measuredBy, sampledIn, eventOf}
+use Rattle.event.specs.declared.Event.the-variants as event
+use Rattle.invariant.specs.Representable.{Byte, RegistersFit, EnablesFit}
+
+pub record Sized (s : State) : Type 0 where
+  pub full : length (s .settings .values) ≡ entries
+  pub registers : RegistersFit (s .registers)
+  pub enables : EnablesFit (s .enables)
+
+-- ---- bytes
+
+without-byte : (x i : ℕ) → Byte x → Byte (withoutBit x i)
+unfolding withoutBit
+without-byte x i h = omega arith
+
+with-byte : (x i v : ℕ) → Byte x → Byte (withBit x i v)
+unfolding withBit
+with-byte x i v h = by (ltb i 8) (eqb v 0) refl where
+  by : (t u : Bool) → ltb i 8 ≡ t → Byte (cond t (cond u (withoutBit x i) (bitOr x (2 ^ i))) x)
+  by true true e = without-byte x i h
+  by true false e = or-lt 8 x (2 ^ i) h (pow-lt (ltb-true i 8 e))
+  by false u e = h
+
+module _ (r : Registers) (k : RegistersFit r) where
+  lia-fits : (bits : ℕ) → Byte bits → RegistersFit (withLia r bits)
+  lia-fits bits h = record { standard = k .standard; lia = or-lt 8 (r .lia) bits (k .lia) h; errors = k .errors }
+
+  standard-fits : (bits : ℕ) → Byte bits → RegistersFit (withStandard r bits)
+  standard-fits bits h =
+      record { standard = or-lt 8 (r .standard) bits (k .standard) h; lia = k .lia; errors = k .errors }
+
+  pub register-byte : (which : Register) → Byte (registerOf r which)
+  unfolding registerOf
+  register-byte Standard = k .standard
+  register-byte Service = omega arith
+  register-byte Lia = k .lia
+  register-byte Errors = k .errors
+
+  with-register-fits : (which : Register) (x : ℕ) → Byte x → RegistersFit (withRegister r which x)
+  unfolding withRegister
+  with-register-fits Standard x h = record { standard = h; lia = k .lia; errors = k .errors }
+  with-register-fits Service x h = k
+  with-register-fits Lia x h = record { standard = k .standard; lia = h; errors = k .errors }
+  with-register-fits Errors x h = record { standard = k .standard; lia = k .lia; errors = h }
+
+  asked-fits : (q : QueryArgument) → RegistersFit (registersAsked q r)
+  unfolding registersAsked clearedOf bitCleared
+  asked-fits (query.Status which) = with-register-fits which 0 (omega arith)
+  asked-fits (query.StatusBit which i) =
+      with-register-fits which (withoutBit (registerOf r which) i)
+      (without-byte (registerOf r which) i (register-byte which))
+  asked-fits (query.Value entry) = k
+  asked-fits (query.Pair entry) = k
+  asked-fits (query.Enable which) = k
+  asked-fits (query.EnableBit which i) = k
+  asked-fits query.Identity = k
+  asked-fits query.Points = k
+  asked-fits (query.Trace form t bin count) = k
+
+module _ (e : Enables) (k : EnablesFit e) where
+  pub enable-byte : (which : Register) → Byte (enableOf e which)
+  unfolding enableOf
+  enable-byte Standard = k .standard
+  enable-byte Service = k .service
+  enable-byte Lia = k .lia
+  enable-byte Errors = k .errors
+
+  with-enable-fits : (which : Register) (x : ℕ) → Byte x → EnablesFit (withEnableByte e which x)
+  unfolding withEnableByte
+  with-enable-fits Standard x h = record { standard = h; service = k .service; lia = k .lia; errors = k .errors }
+  with-enable-fits Service x h =
+      record { standard = k .standard; service = without-byte x 6 h; lia = k .lia; errors = k .errors }
+  with-enable-fits Lia x h = record { standard = k .standard; service = k .service; lia = h; errors = k .errors }
+  with-enable-fits Errors x h = record { standard = k .standard; service = k .service; lia = k .lia; errors = h }
+
+  set-fits : (a : SetArgument) → EnablesFit (enablesSet a e)
+  unfolding enablesSet withEnable withEnableBit
+  set-fits (set.Enable which v) = with-enable-fits which (v % 256) (omega arith)
+  set-fits (set.EnableBit which i v) =
+      with-enable-fits which (withBit (enableOf e which) i v) (with-byte (enableOf e which) i v (enable-byte which))
+  set-fits (set.Value entry v) = k
+  set-fits (set.Pair entry v w) = k
+
+-- ---- bits that are set
+
+cond-byte : (t : Bool) (x y : ℕ) → x ≤ 32 → y ≤ 32 → cond t x y ≤ 32
+cond-byte true x y h g = h
+cond-byte false x y h g = g
+
+crossing-byte : (old new constant : ℕ) → Byte (crossingOf old new constant .bits)
+unfolding crossingOf
+crossing-byte old new constant =
+    omega (
+      arith,
+      cond-byte (crosses old new) 16 0 (omega arith) (omega arith),
+      cond-byte (lifts old new && leb 14 constant) 32 0 (omega arith) (omega arith),
+    )
+
+trigger-byte : (s : Storage) (capacity : ℕ) (by : Sampling) → Byte (triggeredOf s capacity by .bits)
+unfolding triggeredOf
+trigger-byte s capacity by = side (setsRunning s by || triggerStores s by) where
+  side : (t : Bool) → cond t bit6 0 < 2 ^ 8
+  side true = omega arith
+  side false = omega arith
+
+refusal-byte : (r : Refusal) → Byte (codeOf r .bits)
+refusal-byte r = ltb-true _ (2 ^ 8) (refusal-rule (λ q. ltb (codeOf q .bits) (2 ^ 8)) refl r)
+
+-- ---- a state
+
+crossed-sized : (old : ℕ) (s : State) → Sized s → Sized (crossedFrom old s)
+unfolding crossedFrom
+crossed-sized old s k =
+    record {
+      full = length-set (s .settings .values) oflt _ ∙ k .full;
+      registers = lia-fits (s .registers) (k .registers) _ (crossing-byte old _ _);
+      enables = k .enables;
+    }
+
+settings-full : (kind : Kind) (x : Settings) → length (x .values) ≡ entries
+    → length (settingsAfter kind x .values) ≡ entries
+unfolding settingsAfter setIn withPair restoredBy
+settings-full (Set (set.Value e v)) x h = length-set (x .values) e v ∙ h
+settings-full (Set (set.Pair e v w)) x h =
+    length-set (set (x .values) e v) (nextEntry e) w ∙ (length-set (x .values) e v ∙ h)
+settings-full (Set (set.Enable r v)) x h = h
+settings-full (Set (set.EnableBit r i v)) x h = h
+settings-full (Query q) x h = h
+settings-full (Act a) x h = by (change.isRst a) where
+  by : (t : Bool) → length (cond t startSettings x .values) ≡ entries
+  by true = unfold startSettings table in refl
+  by false = h
+
+trigger-fits : (s : State) → RegistersFit (s .registers) → RegistersFit (withLia (s .registers) (triggerOf s .bits))
+unfolding triggerOf
+trigger-fits s k =
+    lia-fits (s .registers) k _ (trigger-byte (s .acquisition .storage) (s .installation .capacity) (samplingOf (s .settings)))
+
+registers-fit : (kind : Kind) (r : Registers) → RegistersFit r → RegistersFit (registersAfter kind r)
+unfolding registersAfter registersBy
+registers-fit (Set a) r k = k
+registers-fit (Query q) r k = asked-fits r k q
+registers-fit (Act a) r k = by (change.isClear a) where
+  by : (t : Bool) → RegistersFit (cond t allCleared r)
+  by true = record { standard = omega arith; lia = omega arith; errors = omega arith }
+  by false = k
+
+enables-fit : (kind : Kind) (e : Enables) → EnablesFit e → EnablesFit (enablesAfter kind e)
+unfolding enablesAfter
+enables-fit (Set a) e k = set-fits e k a
+enables-fit (Query q) e k = k
+enables-fit (Act a) e k = k
+
+changed-sized : (kind : Kind) (p : StorageStep) (s : State) → Sized s → Sized (changedBy kind p s)
+unfolding changedBy
+changed-sized kind p s k =
+    record {
+      full = settings-full kind (s .settings) (k .full);
+      registers = registers-fit kind (s .registers) (k .registers);
+      enables = enables-fit kind (s .enables) (k .enables);
+    }
+
+-- a trigger, by the event or by TRIG
+triggered-sized : (s : State) → Sized s → Sized (sampledBy (triggerOf s) s)
+unfolding sampledBy
+triggered-sized s k = record { full = k .full; registers = trigger-fits s (k .registers); enables = k .enables }
+
+acted-sized : (a : Action) (s : State) → Sized s → Sized (stateAfter (Act a) s)
+unfolding stateAfter storageAfter storageBy triggerOf
+acted-sized Trigger s k = triggered-sized s k
+acted-sized Reset s k = changed-sized (Act Reset) _ s k
+acted-sized Clear s k = changed-sized (Act Clear) _ s k
+acted-sized Start s k = changed-sized (Act Start) _ s k
+acted-sized Pause s k = changed-sized (Act Pause) _ s k
+acted-sized Empty s k = changed-sized (Act Empty) _ s k
+
+-- a command that is done, and one that is refused
+pub after-sized : (kind : Kind) (s : State) → Sized s → Sized (stateAfter kind s)
+after-sized (Set a) s k =
+    unfold stateAfter in crossed-sized (detectionNow s) (changedBy (Set a) _ s) (changed-sized (Set a) _ s k)
+after-sized (Query q) s k = unfold stateAfter in changed-sized (Query q) _ s k
+after-sized (Act a) s k = acted-sized a s k
+
+pub marked-sized : (r : Refusal) (s : State) → Sized s → Sized (withErrorBit r s)
+unfolding withErrorBit
+marked-sized r s k =
+    record {
+      full = k .full;
+      registers = standard-fits (s .registers) (k .registers) _ (refusal-byte r);
+      enables = k .enables;
+    }
+
+-- a trigger, and a measured frequency
+pub trigger-sized : (s : State) (one two : List ℕ) → Sized s → Sized (eventOf event.Trigger s one two .after)
+unfolding eventOf sampledIn
+trigger-sized s one two k = triggered-sized s k
+
+pub measured-sized : (f : ℕ) (s : State) (one two : List ℕ) → Sized s
+    → Sized (eventOf (event.Measured f) s one two .after)
+unfolding eventOf measuredBy
+measured-sized f s one two k = by (isInternal (s .settings)) (takesFrequency s f) where
+  taken : State
+  taken = crossedFrom (detectionNow s) (withExternal f s)
+
+  left : State
+  left = withRegisters (withLia (s .registers) notTaken) s
+
+  by : (a b : Bool) → Sized (cond a s (cond b taken left))
+  by true b = k
+  by false true =
+      crossed-sized (detectionNow s) (withExternal f s)
+      (record { full = k .full; registers = k .registers; enables = k .enables })
+  by false false =
+      record {
+        full = k .full;
+        registers = lia-fits (s .registers) (k .registers) notTaken (omega arith);
+        enables = k .enables;
+      }

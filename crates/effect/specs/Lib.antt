@@ -1,0 +1,2 @@
+-- What a command changes.
+pub mod Effect

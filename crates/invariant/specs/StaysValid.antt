@@ -1,0 +1,83 @@
+-- Allowed states stay allowed, so that refusal 11 never meets a state that we made: document 01, refusal 11, and
+-- refusal 9 for the traces.
+use Prim.Native.Nat.{ℕ}
+use mathlib.Core.Bool.{Bool, true}
+use mathlib.Core.Path.{_≡_}
+use mathlib.Core.List.{List}
+use lib.ListN.{length}
+use Rattle.outcome.specs.declared.Outcome.the-variants.{Done}
+use Rattle.command.specs.Parsed.{parsedOf}
+use Rattle.state.specs.State.{startState}
+use Rattle.state.specs.Valid.{installationValid, validState}
+use Rattle.state.specs.declared.Installation.{Installation}
+use Rattle.state.specs.declared.State.{State}
+use Rattle.line.specs.Perform.{commandOf}
+use Rattle.line.specs.Line.{lineOf}
+use Rattle.event.specs.Event.{eventOf}
+use Rattle.event.specs.declared.Event.{Event}
+use Rattle.queue.specs.Queue.{lineLimit}
+use Rattle.module.specs.Module.{validModule, guardOf}
+use Rattle.module.specs.declared.Module.{Module}
+use Rattle.lockin.specs.Start.{startCall}
+use Rattle.lockin.specs.Calls.{lineCall, byteCall, eventCall}
+
+-- from a state and its traces to others: an allowed state stays allowed, what is fixed at start stays, and each trace
+-- keeps its length
+pub record Stays (before after : State) (one two first second : List ℕ) : Type 0 where
+  pub valid : validState before ≡ true → validState after ≡ true
+  pub installation : after .installation ≡ before .installation
+  pub first-length : length first ≡ length one
+  pub second-length : length second ≡ length two
+
+-- a fresh state is allowed, and every command, every line and every event leads from an allowed state to an allowed one
+pub record StatesStay : Type 0 where
+  pub start : (u : Installation) → installationValid u ≡ true → validState (startState u) ≡ true
+  pub command : (room : ℕ) (waiting : Bool) (text : List ℕ) (s : State) (one two : List ℕ) →
+      let e = commandOf room waiting (parsedOf text) s one two in
+      Stays s (e .after) one two (e .one) (e .two)
+  pub line : (room : ℕ) (bytes : List ℕ) (s : State) (one two : List ℕ) →
+      let l = lineOf room bytes s one two in
+      Stays s (l .after) one two (l .one) (l .two)
+  pub event : (event : Event) (s : State) (one two : List ℕ) →
+      let e = eventOf event s one two in
+      Stays s (e .after) one two (e .one) (e .two)
+
+-- from a module and its traces to others: an allowed module stays allowed, and where neither 11 (the state) nor 9 (the
+-- traces) refuses a call, neither refuses the next one; the queue's bytes stay as many
+pub record Goes (before after : Module) (one two first second : List ℕ) : Type 0 where
+  pub valid : validModule before ≡ true → validModule after ≡ true
+  pub next : guardOf before (length one) (length two) ≡ Done → guardOf after (length first) (length second) ≡ Done
+  pub queued : length (after .queue .bytes) ≡ length (before .queue .bytes)
+
+-- a module that the calls made, each with any traces
+pub data Reachable : Module → Type 0 where
+  -- by a start, refused or not
+  byStart : (serial port first second : ℕ) → Reachable (startCall serial port first second .after)
+  -- by a line handed over whole
+  byLine : (room : ℕ) (bytes : List ℕ) (m : Module) (one two : List ℕ) → Reachable m →
+      Reachable (lineCall room bytes m one two .after)
+  -- by a byte
+  byByte : (room b : ℕ) (mark : Bool) (m : Module) (one two : List ℕ) → Reachable m →
+      Reachable (byteCall room b mark m one two .after)
+  -- by an event
+  byEvent : (event : Event) (m : Module) (one two : List ℕ) → Reachable m → Reachable (eventCall event m one two .after)
+
+-- every start, refused ones too, gives an allowed module whose queue has all its bytes; where the start is not refused,
+-- 9 does not refuse the traces either; every line, byte and event leads on from there, so that no module that we made
+-- is refused by 11
+pub record StaysValid : Type 0 where
+  pub start : (serial port first second : ℕ) → validModule (startCall serial port first second .after) ≡ true
+  pub started : (serial port first second : ℕ) → startCall serial port first second .outcome ≡ Done →
+      guardOf (startCall serial port first second .after) first second ≡ Done
+  pub queued : (serial port first second : ℕ) →
+      length (startCall serial port first second .after .queue .bytes) ≡ lineLimit
+  pub line : (room : ℕ) (bytes : List ℕ) (m : Module) (one two : List ℕ) →
+      let c = lineCall room bytes m one two in
+      Goes m (c .after) one two (c .one) (c .two)
+  pub byte : (room b : ℕ) (mark : Bool) (m : Module) (one two : List ℕ) → length (m .queue .bytes) ≡ lineLimit →
+      let c = byteCall room b mark m one two in
+      Goes m (c .after) one two (c .one) (c .two)
+  pub event : (event : Event) (m : Module) (one two : List ℕ) →
+      let c = eventCall event m one two in
+      Goes m (c .after) one two (c .one) (c .two)
+  pub made : (m : Module) → Reachable m → validModule m ≡ true

@@ -1,0 +1,17 @@
+-- `line_text::capital_of` meets its contract. Assumes nothing.
+use borrow.Author.Tests.{lt-ltb, le-ltb}
+use borrow.Author.Needs.{needs}
+use Rattle.line_text.proofs.capital_of.Statement.{statement}
+use Rattle.line_text.proofs.capital_of.Tie as tie
+
+returns : tie.Need-returns
+returns c = rw (lt-ltb _ _ (c .if1 .taken))
+
+returns-2 : tie.Need-returns-2
+returns-2 c = rw (le-ltb _ _ (c .before .if1 .left), lt-ltb _ _ (c .if2 .taken))
+
+returns-3 : tie.Need-returns-3
+returns-3 c = rw (le-ltb _ _ (c .before .if1 .left), le-ltb _ _ (c .if2 .left))
+
+pub capital-of-spec : {M : Type 1} → statement M
+capital-of-spec = tie.close (tie.spec returns returns-2 (λ c. search needs) returns-3)

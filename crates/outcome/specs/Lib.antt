@@ -1,0 +1,3 @@
+-- The refusals' meaning, and a line's answer.
+pub mod Code
+pub mod Answer

@@ -1,0 +1,2 @@
+-- The points stored, over every call.
+pub mod Points

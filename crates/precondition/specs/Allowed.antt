@@ -1,0 +1,56 @@
+-- Whether the state allows a command: refusal 3, "not allowed in this state (FREQ, HARM, FMOD, OFLT, SEND, TRC rules
+-- above)".
+use Prim.Native.Nat.{ℕ}
+use mathlib.Core.Bool.{Bool, true, cond, _&&_}
+use lib.Dec.{eqb}
+use Rattle.settings.specs.Table.{fmod, freq, harm, oflt, send, withValue}
+use Rattle.settings.specs.Frequency.{isInternal, detectionOf, withinLimit, timeConstantStands}
+use Rattle.settings.specs.declared.Settings.{Settings}
+use Rattle.storage.specs.Storage.{isReset, holdsOf}
+use Rattle.command.specs.declared.SetArgument.{SetArgument}
+use Rattle.command.specs.declared.SetArgument.the-variants as set
+use Rattle.command.specs.declared.QueryArgument.{QueryArgument}
+use Rattle.command.specs.declared.QueryArgument.the-variants as query
+use Rattle.command.specs.declared.Kind.{Kind}
+use Rattle.command.specs.declared.Kind.the-variants.{Set, Query, Act}
+use Rattle.state.specs.declared.Acquisition.{Acquisition}
+
+-- "It is at most 102 kHz in every state": whether it still is with another value at an entry
+unfoldable pub staysWithinLimit : Settings → Acquisition → ℕ → ℕ → Bool
+staysWithinLimit s m entry v = withinLimit (detectionOf (withValue s entry v) (m .external))
+
+-- "FREQ (as rounded), HARM or FMOD that would break this is refused, never adjusted"; "FREQ is set only when FMOD is
+-- 1."; "OFLT 14 to 19 (above 30 s) is refused while the detection frequency exceeds 200 Hz."; "SEND is refused unless
+-- storage is reset"
+unfoldable pub valueAllowed : Settings → Acquisition → ℕ → ℕ → Bool
+valueAllowed s m entry v =
+    cond (eqb entry freq) (isInternal s && staysWithinLimit s m entry v)
+    (cond (eqb entry harm) (staysWithinLimit s m entry v)
+    (cond (eqb entry fmod) (staysWithinLimit s m entry v)
+    (cond (eqb entry oflt) (timeConstantStands (detectionOf s (m .external)) v)
+    (cond (eqb entry send) (isReset (m .storage)) true))))
+
+-- whether a set is allowed
+unfoldable pub setAllowed : Settings → Acquisition → SetArgument → Bool
+setAllowed s m (set.Value entry v) = valueAllowed s m entry v
+setAllowed s m (set.Pair entry v w) = true
+setAllowed s m (set.Enable r v) = true
+setAllowed s m (set.EnableBit r i v) = true
+
+-- "j+k above SPTS is refused"
+unfoldable pub queryAllowed : Acquisition → QueryArgument → Bool
+queryAllowed m (query.Trace form t bin count) = holdsOf (m .storage) bin count
+queryAllowed m (query.Value entry) = true
+queryAllowed m (query.Pair entry) = true
+queryAllowed m (query.Enable r) = true
+queryAllowed m (query.EnableBit r i) = true
+queryAllowed m (query.Status r) = true
+queryAllowed m (query.StatusBit r i) = true
+queryAllowed m query.Identity = true
+queryAllowed m query.Points = true
+
+-- whether a command is allowed
+unfoldable pub isAllowed : Settings → Acquisition → Kind → Bool
+isAllowed s m (Set a) = setAllowed s m a
+isAllowed s m (Query q) = queryAllowed m q
+isAllowed s m (Act a) = true

@@ -1,0 +1,2 @@
+-- What a command needs of the state.
+pub mod Allowed

@@ -1,0 +1,67 @@
+-- The text that a query replies: document 01, "Settings", "Storing points" and "Events, status, identity".
+use Prim.Native.Nat.{ℕ}
+use mathlib.Core.Bool.{Bool, false, cond}
+use mathlib.Core.List.{List, [], _++_}
+use lib.Dec.{eqb}
+use Rattle.split.specs.Ascii.{bytes}
+use Rattle.settings.specs.Table.{freq, rowOf, nextEntry, valueOf}
+use Rattle.settings.specs.Frequency.{inForce}
+use Rattle.queue.specs.Queue.{rs232, lf, cr}
+use Rattle.storage.specs.Storage.{atRest}
+use Rattle.status.specs.Bits.{bitOf}
+use Rattle.status.specs.Status.{registerOf, enableOf, statusByte}
+use Rattle.format.specs.Text.{plain, padded, signedText, next}
+use Rattle.mnemonic.specs.declared.Register.{Register}
+use Rattle.mnemonic.specs.declared.Register.the-variants.{Standard, Service, Lia, Errors}
+use Rattle.command.specs.declared.QueryArgument.{QueryArgument}
+use Rattle.command.specs.declared.QueryArgument.the-variants.{Value, Pair, Enable, EnableBit, Status, StatusBit}
+use Rattle.command.specs.declared.QueryArgument.the-variants.{Identity, Points, Trace}
+use Rattle.state.specs.declared.State.{State}
+
+-- "The one in force follows FMOD, and FREQ? replies it."
+unfoldable pub valueNow : State → ℕ → ℕ
+valueNow s entry = cond (eqb entry freq) (inForce (s .settings) (s .acquisition .external)) (valueOf (s .settings) entry)
+
+-- "whole numbers plain; PHAS and OEXP x with 2 decimals, SLVL and AUXV 3, FREQ 4; minus only below zero"
+unfoldable pub valueText : State → ℕ → List ℕ
+valueText s entry = signedText (rowOf entry .decimals) (rowOf entry .bias) (valueNow s entry)
+
+-- "several values divided by ",""
+unfoldable pub pairText : State → ℕ → List ℕ
+pairText s entry =
+    let second = nextEntry entry in
+    valueText s entry ++ next (rowOf second .decimals) (rowOf second .bias) (valueNow s second)
+
+-- the status byte while a line runs: "1 no command running (0 within a *STB? reply)", "4 reply bytes of this line
+-- already waiting"
+unfoldable pub statusNow : State → Bool → ℕ
+statusNow s waiting =
+    statusByte (s .registers) (s .enables)
+    (record { «at_rest» = atRest (s .acquisition .storage); idle = false; waiting = waiting })
+
+-- what a status query reads: the status byte or an event register
+unfoldable pub statusOf : State → Bool → Register → ℕ
+statusOf s waiting Standard = registerOf (s .registers) Standard
+statusOf s waiting Service = statusNow s waiting
+statusOf s waiting Lia = registerOf (s .registers) Lia
+statusOf s waiting Errors = registerOf (s .registers) Errors
+
+-- "*IDN? replies `LOCKIN,M1,s/n00042,ver1.000`, the serial in five digits."
+unfoldable pub identityText : ℕ → List ℕ
+identityText serial = bytes "LOCKIN,M1,s/n" ++ (padded 5 serial ++ bytes ",ver1.000")
+
+-- a reply that is a text, without its end; a trace read is none
+unfoldable pub textOf : QueryArgument → State → Bool → List ℕ
+textOf (Value entry) s waiting = valueText s entry
+textOf (Pair entry) s waiting = pairText s entry
+textOf (Enable which) s waiting = plain (enableOf (s .enables) which)
+textOf (EnableBit which i) s waiting = plain (bitOf (enableOf (s .enables) which) i)
+textOf (Status which) s waiting = plain (statusOf s waiting which)
+textOf (StatusBit which i) s waiting = plain (bitOf (statusOf s waiting which) i)
+textOf Identity s waiting = identityText (s .installation .serial)
+textOf Points s waiting = plain (s .acquisition .storage .held)
+textOf (Trace form t bin count) s waiting = []
+
+-- "RS232 (..; replies end in CR) or GPIB (..; replies end in LF)": by the port's number
+abbrev pub terminatorOf : ℕ → ℕ
+terminatorOf port = cond (eqb port rs232) cr lf

@@ -1,2 +1,0 @@
--- Laws on the texts of replies.
-pub mod Texts

@@ -1,2 +1,0 @@
--- The text that a query replies.
-pub mod ReplyText

@@ -1,0 +1,29 @@
+-- The settings that a state may have: refusal 11, "a state outside the ranges, steps and limits above".
+use Prim.Native.Nat.{ℕ, zero, suc, _%_}
+use mathlib.Core.Bool.{Bool, true, _&&_}
+use lib.Dec.{leb, eqb}
+use Rattle.settings.specs.Table.{entries, oflt, rowOf, valueOf}
+use Rattle.settings.specs.Frequency.{detectionOf, withinLimit, timeConstantStands, frequencyInRange}
+use Rattle.settings.specs.Setting.{stepOf}
+use Rattle.settings.specs.declared.Settings.{Settings}
+
+-- a value in its entry's range and on its step (where the step is not 1 the bias is 0)
+unfoldable pub valueValid : ℕ → ℕ → Bool
+valueValid entry x = leb (rowOf entry .least) x && (leb x (rowOf entry .most) && eqb (x % stepOf entry x) 0)
+
+-- the test holds of every number below n
+unfoldable pub every : (ℕ → Bool) → ℕ → Bool
+every test zero = true
+every test (suc n) = every test n && test n
+
+-- every value may be kept
+unfoldable pub valuesValid : Settings → Bool
+valuesValid s = every (λ entry. valueValid entry (valueOf s entry)) entries
+
+-- settings that a state may have: with the limits on the external and detection frequencies and the time constant
+unfoldable pub validSettings : Settings → ℕ → Bool
+validSettings s external =
+    let detection = detectionOf s external in
+    valuesValid s
+    && (frequencyInRange external
+    && (withinLimit detection && timeConstantStands detection (valueOf s oflt)))

@@ -1,0 +1,38 @@
+-- The states that are allowed: refusal 11, "a state outside the ranges, steps and limits above, its serial and port
+-- included".
+use Prim.Native.Nat.{ℕ}
+use mathlib.Core.Bool.{Bool, _&&_}
+use lib.Dec.{leb}
+use Rattle.queue.specs.Queue.{gpib}
+use Rattle.settings.specs.Limits.{capacityFits}
+use Rattle.settings.specs.Table.{send, valueOf}
+use Rattle.settings.specs.Valid.{validSettings}
+use Rattle.storage.specs.Storage as storage
+use Rattle.status.specs.Status as status
+use Rattle.point.specs.Point.{isLegal}
+use Rattle.state.specs.declared.Installation.{Installation}
+use Rattle.state.specs.declared.Pair.{Pair}
+use Rattle.state.specs.declared.State.{State}
+
+-- the highest serial number
+abbrev pub serialMost : ℕ
+serialMost = 99999
+
+-- "serial over 99999 or port unknown": the ports are RS232 and GPIB, as numbers; "capacity, 1 to 16383"
+unfoldable pub installationValid : Installation → Bool
+installationValid u = leb (u .serial) serialMost && (leb (u .port) gpib && capacityFits (u .capacity))
+
+-- the latest pair, and every pair that an event may make the latest one: two legal points
+unfoldable pub latestValid : Pair → Bool
+latestValid p = isLegal (p .one) && isLegal (p .two)
+
+-- settings with the external frequency, storage with its capacity, registers with their enables
+unfoldable pub partsValid : State → Bool
+partsValid s =
+    validSettings (s .settings) (s .acquisition .external)
+    && (storage.isValid (s .acquisition .storage) (s .installation .capacity) (valueOf (s .settings) send)
+    && status.isValid (s .registers) (s .enables))
+
+-- every part of the state
+unfoldable pub validState : State → Bool
+validState s = partsValid s && (latestValid (s .latest) && installationValid (s .installation))

@@ -1,4 +1,0 @@
--- What replies in text say. Again is the promise on them, Parts is what only inner functions are held to.
-pub mod Text
-pub mod Parts
-pub mod Again
