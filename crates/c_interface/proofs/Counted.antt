@@ -96,13 +96,13 @@ FoundFits lines fine = Unit {0}
 FoundFits lines noCommand = Unit {0}
 FoundFits lines (stop i place r) = (i < lines) × (place ≤ placeMost)
 
-by-fits : (lines : ℕ) (a : Answer) (nextEntry : Finding) → PlaceFits a → FoundFits lines nextEntry
-    → FoundFits (suc lines) (foundBy a nextEntry)
+by-fits : (lines : ℕ) (a : Answer) (rest : Finding) → PlaceFits a → FoundFits lines rest
+    → FoundFits (suc lines) (foundBy a rest)
 unfolding foundBy
 by-fits lines Passed fine f g = tt
 by-fits lines Passed noCommand f g = tt
 by-fits lines Passed (stop i place r) f g = (omega (arith, g .0), g .1)
-by-fits lines (Refused r place) nextEntry f g = (omega arith, f)
+by-fits lines (Refused r place) rest f g = (omega arith, f)
 
 lines-fit : (model : Model) (ls : List (List ℕ)) (b : Extremes) → FoundFits (length ls) (finding model ls b)
 unfolding finding

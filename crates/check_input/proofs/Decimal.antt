@@ -40,7 +40,7 @@ fewest-places n k f = by (ltb (digitCount n) k) refl where
       let l = ltb-false (digitCount n) k e in
       omega (arith, places-least n k (omega arith) (f .1))
 
--- what is written: as many bytes as are told
+-- what is written: as many bytes as are reported
 pub record Writes (n k : ℕ) (out : List ℕ) : Type 0 where
   pub shows : take (k - 0) out ≡ plain n
   pub few : length (take (k - 0) out) ≤ 20

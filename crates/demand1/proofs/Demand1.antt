@@ -40,7 +40,7 @@ use Rattle.demand1.specs.Demand1.{RefusedCall, emptiedAt, RefusedEvent, 
 use Rattle.demand1.specs.Demand1.{RefusedChangesNothing}
 use Rattle.demand1.specs.Demand1 as demand
 use Rattle.demand1.proofs.OneByOne.{marked-only, never, command-refused, step-refused, commands-are, answering}
-use Rattle.demand2.proofs.Says.{open-call}
+use Rattle.invariant.proofs.OneCommand.{open-call}
 
 -- refusals 11 and 9, by the tests that decide them
 guard-by : (m : Module) (first second : ℕ) (P : Outcome → Type 0) →
@@ -110,7 +110,7 @@ module _ (m : Module) (one two : List ℕ) (refusal : Refusal) (q : Queue) where
       same-all : (r : Refusal) → Untouched m one two (guardedCall (Refused r) c)
       same-all r = record { after = refl; first = refl; second = refl; reply = refl; length = refl }
 
-  -- what comes of a line's end: 5 alone is told at place 0, and then the queue is q
+  -- what comes of a line's end: 5 alone is reported at place 0, and then the queue is q
   end-refuses : (e : LineEnd) (room : ℕ) (bytes : List ℕ) (t : Queue) → (e ≡ ending.TooLong → t ≡ q) →
       Refuses (withQueue t (lineEnd e room bytes (m .state) one two))
   unfolding lineEnd Refuses

@@ -221,7 +221,7 @@ commands-cons room text l c more end n (demand.whole texts last t) =
 commands-cons room text l c more end n (demand.roomTooSmall before other dropped here t r) =
     demand.roomTooSmall (text ∷ before) other dropped here (demand.next text before l here c t) r
 
--- the commands of a line, with the length told, which goes by whether the rest was dropped
+-- the commands of a line, with the length reported, which goes by whether the rest was dropped
 pub commands-are : (room : ℕ) (texts : List (List ℕ)) (l : Line) → l .report .dropped ≡ false →
     Commands room l texts (runAll room texts l) (reportedLength (runAll room texts l))
 commands-are room =

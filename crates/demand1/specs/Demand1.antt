@@ -87,9 +87,11 @@ pub record RefusedStep (refusal : Refusal) (room : ℕ) (text : List ℕ) (l : L
   pub first : afterCommand room text l .one ≡ l .one
   pub second : afterCommand room text l .two ≡ l .two
   pub reply : afterCommand room text l .out ≡ l .out
-  pub answer : afterCommand room text l .report .answer ≡ firstOf (l .report .answer) (Refused refusal) (l .report .count + 1)
+  pub answer : afterCommand room text l .report .answer
+      ≡ firstOf (l .report .answer) (Refused refusal) (l .report .count + 1)
   pub next : (more : List (List ℕ)) →
-      runAll room (text ∷ more) l ≡ cond (isNoRoom refusal) (afterCommand room text l) (runAll room more (afterCommand room text l))
+      let next = afterCommand room text l in
+      runAll room (text ∷ more) l ≡ cond (isNoRoom refusal) next (runAll room more next)
 
 -- an accepted command of a line: the state and the traces that it leaves are the line's, its reply comes after the
 -- bytes before it, and the commands after it have their turn from there

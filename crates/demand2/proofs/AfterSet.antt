@@ -1,4 +1,4 @@
--- What an allowed state keeps, and what a set leaves in it. Assumes nothing.
+-- What a valid state keeps, and what a set leaves in it. Assumes nothing.
 use Prim.Native.Nat.{ℕ, _+_, _<_}
 use mathlib.Core.Path.{_≡_, refl, _∙_}
 use mathlib.Core.Bool.{Bool, true, false, cond, not, _&&_}
@@ -7,12 +7,13 @@ use lib.Dec.{leb, eqb}
 use lib.ListN.{length, length-set, getD}
 use lib.ListN as ListN
 use lib.Seq.{getD-set-same, getD-set-other}
-use borrow.Author.Tests.{eqb-true, eqb-false, lt-ltb}
+use borrow.Author.Tests.{eqb-true, eqb-false}
 use Rattle.laws.proofs.Tests.{and-first}
 use Rattle.settings.specs.Table.{entries, fmod, freq, harm, oflt, nextEntry, valueOf, withValue}
 use Rattle.settings.specs.Frequency.{isInternal, inForce, detectionOf, above200, crossingOf}
 use Rattle.settings.specs.Valid.{valueValid, valuesValid, validSettings}
 use Rattle.settings.specs.declared.Settings.{Settings}
+use Rattle.settings.proofs.Values.{next-is}
 use Rattle.settings.proofs.Every.{every-at}
 use Rattle.command.specs.declared.SetArgument.the-variants as set
 use Rattle.command.specs.declared.Kind.the-variants.{Set}
@@ -22,7 +23,7 @@ use Rattle.state.specs.declared.State.{State}
 use Rattle.effect.specs.Effect.{withPair, setIn, settingsAfter, externalAfter, changedBy, stateAfter}
 use Rattle.reply.specs.Text.{valueNow}
 
--- every value of an allowed state may be kept
+-- every value of a valid state may be kept
 pub kept-value : (s : State) → validState s ≡ true → (entry : ℕ) → entry < entries → valueValid entry (valueOf (s .settings) entry) ≡ true
 unfolding validState partsValid validSettings valuesValid
 kept-value s h = every-at (λ entry. valueValid entry (valueOf (s .settings) entry)) entries (and-first _ _ (and-first _ _ (and-first _ _ h)))
@@ -55,10 +56,6 @@ detection-oflt s v external =
       getD-set-other (s .values) oflt freq v 0 (omega arith),
     )
 
-pub behind-is : (entry : ℕ) → entry < entries → nextEntry entry ≡ entry + 1
-unfolding nextEntry
-behind-is entry h = rw (lt-ltb entry entries h)
-
 module _ (t : State) (full : length (t .settings .values) ≡ entries) where
   there : (entry v : ℕ) → entry < entries → getD (ListN.set (t .settings .values) entry v) entry 0 ≡ v
   there entry v h = getD-set-same (t .settings .values) entry v 0 (omega arith)
@@ -88,13 +85,13 @@ module _ (t : State) (full : length (t .settings .values) ≡ entries) where
     pair-first =
         let first = ListN.set (t .settings .values) entry v in
         getD-set-other (ListN.set first (nextEntry entry) w) oflt entry _ 0 (omega arith)
-        ∙ rw (behind-is entry (omega arith)) (getD-set-other first (entry + 1) entry w 0 (omega arith))
+        ∙ rw (next-is entry (omega arith)) (getD-set-other first (entry + 1) entry w 0 (omega arith))
         ∙ there entry v (omega arith)
 
     pub pair-second : valueOf (stateAfter (Set (set.Pair entry v w)) t .settings) (nextEntry entry) ≡ w
     unfolding stateAfter crossedFrom changedBy settingsAfter setIn withPair
     pair-second =
         let first = ListN.set (t .settings .values) entry v in
-        rw (behind-is entry (omega arith))
+        rw (next-is entry (omega arith))
         (getD-set-other (ListN.set first (entry + 1) w) oflt (entry + 1) _ 0 (omega arith)
         ∙ getD-set-same first (entry + 1) w 0 (omega (arith, length-set (t .settings .values) entry v)))

@@ -47,10 +47,12 @@ use Rattle.demand2.specs.Demand2.{valuesAt, replyTo, Ready, answered, Ot
 use Rattle.demand2.specs.Demand2.{refused}
 use Rattle.demand2.specs.Demand2.{Internal, Settable, RoundTrip, Demand2}
 use Rattle.invariant.proofs.Meanings.{name-of-one, name-of-channel, name-of-pair, name-of-enable}
-use Rattle.demand2.proofs.Says.{Says, said-call, asked-call}
+use Rattle.settings.proofs.Values.{next-is}
+use Rattle.invariant.proofs.OneCommand.{Says, said-call}
+use Rattle.demand2.proofs.Asked.{asked-call}
 use Rattle.demand2.proofs.Parsing.{one-asked, one-sent, channel-asked, channel-sent, pair-asked, pair-sent}
 use Rattle.demand2.proofs.Parsing.{enable-asked, enable-sent}
-use Rattle.demand2.proofs.AfterSet.{kept-value, now-kept, behind-is, value-after, pair-first, pair-second}
+use Rattle.demand2.proofs.AfterSet.{kept-value, now-kept, value-after, pair-first, pair-second}
 use Rattle.demand2.proofs.Same.{value-others, pair-others, enable-others}
 use Rattle.demand2.proofs.Same.{set-refused, value-back, value-same, pair-same, enable-byte, enable-same}
 use Rattle.demand2.proofs.Same.{enable-after}
@@ -123,7 +125,7 @@ module _ (s : State) (ok : validState s ≡ true) (fits : StateFits s) where
       ≡ written entry (kept entry) ++ comma ∷ written (nextEntry entry) (kept (nextEntry entry))
   unfolding textOf valueText pairText
   pair-text entry l h =
-      let b = behind-is entry h in
+      let b = next-is entry h in
       rw (now-kept s entry (λ e. absurd (omega arith)), now-kept s (nextEntry entry) (λ e. absurd (omega arith)))
 
   enable-text : (which : Register) → textOf (query.Enable which) s false ≡ claim.textAt s (atEnable which)
@@ -200,7 +202,7 @@ module _ (s : State) (ok : validState s ≡ true) (fits : StateFits s) where
         let at = base + 2 * (i - 1) in
         let past = n .2 .past in
         let inside = n .3 .inside in
-        let b = behind-is at (n .2 .inside) in
+        let b = next-is at (n .2 .inside) in
         record {
           query = query.Pair at;
           quiet = asPair at;

@@ -14,9 +14,9 @@ use Rattle.mnemonic.proofs.Rule.{some, name-found}
 use Rattle.settings.specs.Table.{entries, nextEntry}
 use Rattle.settings.specs.Valid.{every}
 use Rattle.settings.proofs.Every.{every-at}
+use Rattle.settings.proofs.Values.{next-is}
 use Rattle.demand2.specs.Demand2.{atEntry, Address, plainly, channelled, IsSetting, alone, channel, pair}
 use Rattle.demand2.specs.Demand2.{EveryEntry}
-use Rattle.demand2.proofs.AfterSet.{behind-is}
 
 -- a meaning's entries, over all channels
 abbrev within : ℕ → ℕ → ℕ → Bool
@@ -72,7 +72,7 @@ module _ (entry : ℕ) (inside : entry < entries) (name : List ℕ) where
       by false z =
           let other = eqb-false entry at z in
           let next : entry ≡ at + 1 = omega arith in
-          List·Memᴰ·tail (List·Memᴰ·head (ap atEntry (next ∙ sym (behind-is at (omega arith)))))
+          List·Memᴰ·tail (List·Memᴰ·head (ap atEntry (next ∙ sym (next-is at (omega arith)))))
 
   found-in : (m : Meaning) → meaningOf name ≡ m → covers entry m ≡ true → Finding
   unfolding Finding

@@ -1,5 +1,5 @@
 -- Demand 2, proved.
-pub mod Says
+pub mod Asked
 pub mod Written
 pub mod AfterSet
 pub mod Lines

@@ -23,7 +23,7 @@ use Rattle.module.specs.Module.{guardOf}
 use Rattle.module.specs.declared.Module.{Module}
 use Rattle.lockin.specs.Calls.{withQueue, lineRan, lineCall}
 use Rattle.demand2.specs.Lines.{continued, laterAnswer, later, SeveralCommands}
-use Rattle.demand2.proofs.Says.{open-call}
+use Rattle.invariant.proofs.OneCommand.{open-call}
 use Rattle.invariant.proofs.StaysValid.{stays-valid}
 
 -- ---- x;y is divided as x and y are

@@ -39,7 +39,7 @@ use Rattle.invariant.proofs.Bytes.{all, inNumber, inArguments, inCommand, all-a
 use Rattle.invariant.proofs.Bytes.{parts-free, parts-joined, begins-other, cleaned-same, arguments-some}
 use Rattle.invariant.proofs.Bytes.{plain-bytes, plain-some, signed-bytes, signed-some}
 use Rattle.invariant.proofs.Meanings.{Name, Alike, alike-text, alike-keeps}
-use Rattle.demand2.proofs.Says.{Says}
+use Rattle.invariant.proofs.OneCommand.{Says}
 
 -- several arguments, divided by ","
 text-one : (x : List ℕ) → 1 ≤ length x → all inNumber x ≡ true → arguments x ≡ x ∷ []

@@ -47,7 +47,7 @@ world-open model w a t f s = rw (a, t .capacity, f, s, eq-eqb (model .capacity) 
 
 module _ (model : Model) (lines : List (List ℕ)) (k : Course model lines) where
   course-sim : Sim model startExtremes (k .start .core .state)
-  course-sim = record { same = k .report; begun = λ e. absurd (false≢true e) }
+  course-sim = record { same = k .same; begun = λ e. absurd (false≢true e) }
 
   course-open : Open (k .start)
   course-open = world-open model (k .start) (k .valid) (k .report) (k .first) (k .second)
@@ -83,7 +83,7 @@ module _ (model : Model) (fits : modelFits model ≡ true) where
       record {
         start = freshWorld model;
         valid = stays-valid .start 0 1 (model .capacity) (model .capacity);
-        report = fresh-at d .same;
+        same = fresh-at d .same;
         first = length-replicate (model .capacity) 0;
         second = length-replicate (model .capacity) 0;
         fits = fresh-fits model fits;

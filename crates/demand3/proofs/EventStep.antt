@@ -102,7 +102,7 @@ module _ (capacity : ℕ) (x : Settings) (m lo hi : Acquisition) (k : Between ca
 
 -- ---- any course
 
--- a state of the model told, with settings alike and a moving part between the two
+-- a state of the check's model, with settings alike and an acquisition between the two
 pub record Within (model : Model) (x : Settings) (lo hi : Acquisition) (s : State) : Type 0 where
   pub same : OfModel model (s .installation)
   pub alike : Alike (s .settings) x

@@ -114,7 +114,7 @@ module _ (model : Model) (l : List ℕ) (b : Extremes) where
     by true e = not-passed LongScriptLine 0 e
     by false e = (refl, e)
 
-  -- 8 is told of an over-long line, a number up to 7 of a line that runs
+  -- 8 is found at an over-long line, a number up to 7 of a line that runs
   pub refused-split : (r : Refusal) (p : ℕ) (Goal : Type 0) → lineAnswer model l b ≡ Refused r p
       → (lineTooLong l ≡ true → r ≡ LongScriptLine → p ≡ 0 → Goal)
       → (lineTooLong l ≡ false → textsAnswer model 1 (textsOf l) (beforeLine model b) ≡ Refused r p → numberOf r ≤ 7 → Goal)

@@ -1,4 +1,4 @@
--- A course's moving part lies between those of the low and the high course, under the settings that all have: one command keeps it so.
+-- A course's acquisition lies between those of the low and the high course, under the settings that all have: one command keeps it so.
 use Prim.Native.Nat.{ℕ, _+_, _≤_}
 use native.Mathlib.Omega.{arith}
 use native.Mathlib.Nat.{mul-le-mul-left}
@@ -34,7 +34,7 @@ use Rattle.effect.specs.Effect.{withPair, setIn, restoredBy, settingsAfter, sto
 use Rattle.invariant.proofs.Storable.{Storable}
 use Rattle.demand3.proofs.StorageOrder.{Low, low-emptied, low-started, low-paused, low-triggered, reset-started, reset-paused, triggered-reset}
 
--- the moving part m, that of the low course and that of the high one, under the settings x
+-- the acquisition m, that of the low course and that of the high one, under the settings x
 pub record Between (capacity : ℕ) (x : Settings) (m lo hi : Acquisition) : Type 0 where
   pub kept : valuesValid x ≡ true
   pub limit : detectionOf x (hi .external) ≤ hertz 102000

@@ -61,6 +61,7 @@ freshWorld model =
 abbrev pub lineIn : ℕ → List ℕ → World → Call
 lineIn room line w = lineCall room line (w .core) (w .one) (w .two)
 
+-- an event
 abbrev pub eventIn : Event → World → EventCall
 eventIn e w = eventCall e (w .core) (w .one) (w .two)
 
@@ -70,11 +71,13 @@ afterLine room line w =
     let c = lineIn room line w in
     record { core = c .after; one = c .one; two = c .two }
 
+-- after an event
 unfoldable pub afterEvent : Event → World → World
 afterEvent e w =
     let c = eventIn e w in
     record { core = c .after; one = c .one; two = c .two }
 
+-- after several events in turn
 unfoldable pub afterEvents : List Event → World → World
 afterEvents [] w = w
 afterEvents (e ∷ es) w = afterEvents es (afterEvent e w)
@@ -94,6 +97,7 @@ LineInputs (l ∷ ls) = LineInput × LineInputs ls
 abbrev pub before : LineInput → World → World
 before g w = afterEvents (g .events) w
 
+-- what is left after a line
 abbrev pub after : LineInput → List ℕ → World → World
 after g line w = afterLine (g .room) line (before g w)
 
@@ -105,25 +109,28 @@ roomTooSmall room line w =
 -- no room is too small
 abbrev pub RoomsSuffice : (ls : List (List ℕ)) → LineInputs ls → World → Type 0
 RoomsSuffice [] g w = Unit {0}
-RoomsSuffice (l ∷ ls) g w = (roomTooSmall (g .0 .room) l (before (g .0) w) ≡ false) × RoomsSuffice ls (g .1) (after (g .0) l w)
+RoomsSuffice (l ∷ ls) g w =
+    (roomTooSmall (g .0 .room) l (before (g .0) w) ≡ false) × RoomsSuffice ls (g .1) (after (g .0) l w)
 
 -- events that there can be, and a room that is the length of a buffer that there can be; then for each line
 pub record InputFits (g : LineInput) : Type 0 where
   pub events : Every EventFits (g .events)
   pub room : Count (g .room)
 
+-- for each line of a script
 abbrev pub InputsFit : (ls : List (List ℕ)) → LineInputs ls → Type 0
 InputsFit [] g = Unit {0}
 InputsFit (l ∷ ls) g = InputFits (g .0) × InputsFit ls (g .1)
 
 -- ---- the course
 
--- A module that 11 does not refuse and that is of the model told, and two traces of its capacity; for each line, events
--- and a reply room that is not too small. The module, the traces, the events and the rooms are ones that there can be.
+-- A module that 11 does not refuse and that is of the check's model, and two traces of its capacity; for each line,
+-- events and a reply room that is not too small. The module, the traces, the events and the rooms are ones that there
+-- can be.
 pub record Course (model : Model) (lines : List (List ℕ)) : Type 0 where
   pub start : World
   pub valid : validModule (start .core) ≡ true
-  pub report : OfModel model (start .core .state .installation)
+  pub same : OfModel model (start .core .state .installation)
   pub first : length (start .one) ≡ model .capacity
   pub second : length (start .two) ≡ model .capacity
   pub fits : WorldFits start

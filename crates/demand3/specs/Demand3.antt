@@ -40,23 +40,28 @@ pub data Lead : Type 0 where
   none : Lead
   first : (line place : ℕ) (command : Parsed) → Lead
 
+-- a command at a line and a place, and what comes later
 unfoldable pub leadBy : Parsed → ℕ → ℕ → Lead → Lead
 leadBy Empty line place later = later
 leadBy (Refused r) line place later = first line place (Refused r)
 leadBy (Taken c) line place later = first line place (Taken c)
 
+-- the commands of a line, from a place on
 unfoldable pub leadIn : ℕ → ℕ → List (List ℕ) → Lead
 leadIn line place [] = none
 leadIn line place (t ∷ ts) = leadBy (parsedOf t) line place (leadIn line (place + 1) ts)
 
+-- the earlier of two, where there is one
 unfoldable pub orElse : Lead → Lead → Lead
 orElse none later = later
 orElse (first line place c) later = first line place c
 
+-- the lines of a script, from a line number on
 unfoldable pub leadFrom : ℕ → List (List ℕ) → Lead
 leadFrom line [] = none
 leadFrom line (l ∷ ls) = orElse (leadIn line 1 (textsOf l)) (leadFrom (line + 1) ls)
 
+-- the lines of a script
 abbrev pub leadOf : List (List ℕ) → Lead
 leadOf lines = leadFrom 1 lines
 
@@ -95,7 +100,7 @@ pub record FirstRefused (model : Model) (lines : List (List ℕ)) (n place : ℕ
   pub earlier : (k : Course model lines) (q : ℕ) (s : Refusal) → answers k n ≡ answer.Refused s q → place ≤ q
 
 -- 7: the first command that is not empty is another than *RST, and no line up to it is over 256 bytes; or every command
--- of the script is empty, which is told at line 1, place 1
+-- of the script is empty, which is said at line 1, place 1
 pub data NotBegun (lines : List (List ℕ)) : ℕ → ℕ → Type 0 where
   other : (n place : ℕ) (c : Parsed) → leadOf lines ≡ first n place c → isRstCommand c ≡ false
       → ((m : ℕ) → m ≤ n → Short lines m) → NotBegun lines n place

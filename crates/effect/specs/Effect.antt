@@ -99,7 +99,7 @@ storageAfter (Set a) s m capacity = unstored (m .storage)
 storageAfter (Query q) s m capacity = unstored (m .storage)
 storageAfter (Act a) s m capacity = storageBy a (m .storage) capacity (samplingOf s)
 
--- ---- the moving part: storage, and "*RST restores .. the external frequency to the start"
+-- ---- the acquisition: storage, and "*RST restores .. the external frequency to the start"
 
 -- the external frequency after an action
 unfoldable pub externalBy : Action → ℕ → ℕ
@@ -111,11 +111,11 @@ externalAfter (Set a) f = f
 externalAfter (Query q) f = f
 externalAfter (Act a) f = externalBy a f
 
--- the moving part after a command that does p to storage
+-- the acquisition after a command that does p to storage
 abbrev pub acquisitionBy : Kind → StorageStep → Acquisition → Acquisition
 acquisitionBy kind p m = withStorage (p .storage) (atFrequency (externalAfter kind (m .external)) m)
 
--- the moving part after a command
+-- the acquisition after a command
 unfoldable pub acquisitionAfter : Kind → Settings → Acquisition → ℕ → Acquisition
 acquisitionAfter kind s m capacity = acquisitionBy kind (storageAfter kind s m capacity) m
 

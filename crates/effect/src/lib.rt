@@ -1,7 +1,8 @@
 // What a command changes: the settings, what events change too, the registers and the enables.
 ghost use mathlib.Core.Path.{_≡_};
 ghost use Rattle.effect.specs.Effect.{isRst, isClear, isTrigger, withPair, setIn, restoredBy, settingsAfter};
-ghost use Rattle.effect.specs.Effect.{unstored, storageBy, storageAfter, externalBy, externalAfter, acquisitionBy};
+ghost use Rattle.effect.specs.Effect.{unstored, storageBy, storageAfter, externalBy, externalAfter};
+ghost use Rattle.effect.specs.Effect.{acquisitionBy};
 ghost use Rattle.effect.specs.Effect.{acquisitionAfter, registersAsked, registersBy, registersAfter, enablesSet};
 ghost use Rattle.effect.specs.Effect.{enablesAfter, changedBy, stateBy};
 use command::Kind;
@@ -157,7 +158,7 @@ fn external_after(external: u32, kind: Kind) -> u32
     }
 }
 
-// The moving part after a command that does `p` to storage.
+// The acquisition after a command that does `p` to storage.
 fn acquisition_by(m: Acquisition, p: StorageStep, kind: Kind) -> Acquisition
     ensures { λ r. ⌜ r ≡ acquisitionBy kind p m ⌝ }
 {
@@ -168,7 +169,7 @@ fn acquisition_by(m: Acquisition, p: StorageStep, kind: Kind) -> Acquisition
     t
 }
 
-// The moving part after a command.
+// The acquisition after a command.
 pub fn acquisition_after(s: Settings, m: Acquisition, capacity: u32, kind: Kind) -> Acquisition
     ensures { λ r. ⌜ r ≡ acquisitionAfter kind s m capacity ⌝ }
 {

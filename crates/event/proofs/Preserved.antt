@@ -1,4 +1,4 @@
--- Every event leads from an allowed state to an allowed one, and leaves what is fixed at start and the traces' lengths.
+-- Every event leads from a valid state to a valid one, and leaves what is fixed at start and the traces' lengths.
 -- Assumes nothing.
 use Prim.Native.Nat.{ℕ, _*_}
 use mathlib.Core.Bool.{Bool, true, false, cond, and-eq-true-iff}
@@ -29,7 +29,7 @@ pub record Stays (e : Event) (s : State) (one two : List ℕ) : Type 0 where
   pub first : length (eventOf e s one two .one) ≡ length one
   pub second : length (eventOf e s one two .two) ≡ length two
 
--- ---- allowed states
+-- ---- valid states
 
 module _ (s : State) (h : validState s ≡ true) where
   -- other registers

@@ -9,7 +9,8 @@ use Rattle.settings.specs.Table.{harm, valueOf}
 use Rattle.settings.specs.Frequency.{isInternal, withinLimit, frequencyInRange}
 use Rattle.status.specs.Status.{withLia, withRaised, mayRaise}
 use Rattle.storage.specs.declared.StorageStep.{StorageStep}
-use Rattle.state.specs.State.{pairOf, atFrequency, withAcquisition, withRegisters, withLatest, detectionNow, crossedFrom}
+use Rattle.state.specs.State.{pairOf, atFrequency, withAcquisition, withRegisters, withLatest}
+use Rattle.state.specs.State.{detectionNow, crossedFrom}
 use Rattle.state.specs.Storing.{triggerOf, tickOf, sampledBy, storedIn}
 use Rattle.state.specs.Valid.{latestValid}
 use Rattle.state.specs.declared.State.{State}

@@ -83,7 +83,8 @@ floatSeen word =
 unfoldable pub seenOf : Example → Seen
 seenOf (line text) = lineSeen fresh zeros zeros text
 seenOf (trcb m e) = floatSeen (wordOf m e)
-seenOf (script capacity first second) = verdict (verdictNumbers (checkOf (modelOf capacity) (bytes first ++ (10 ∷ bytes second))))
+seenOf (script capacity first second) =
+    verdict (verdictNumbers (checkOf (modelOf capacity) (bytes first ++ (lf ∷ bytes second))))
 
 -- ---- what the table says
 

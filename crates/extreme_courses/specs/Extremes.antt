@@ -70,6 +70,7 @@ kindAfter model kind b =
       high = acquisitionAfter kind (b .settings) (b .high) (model .capacity);
     }
 
+-- what is carried past a command's text
 unfoldable pub textAfter : Model → Parsed → Extremes → Extremes
 textAfter model parsed.Empty b = b
 textAfter model (parsed.Refused r) b = b

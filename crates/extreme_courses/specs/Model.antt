@@ -10,10 +10,10 @@ use Rattle.extreme_courses.specs.declared.Model.{Model}
 abbrev pub modelOf : ℕ → Model
 modelOf capacity = record { capacity = capacity }
 
--- a module can be what is told: traces can have the capacity, else refusal 9
+-- a module can be of the model: traces can have the capacity, else refusal 9
 abbrev pub modelFits : Model → Bool
 modelFits model = capacityFits (model .capacity)
 
--- a module with this unit is what is told
+-- a module with this installation is of the model
 pub record OfModel (model : Model) (installation : Installation) : Type 0 where
   pub capacity : installation .capacity ≡ model .capacity

@@ -11,5 +11,6 @@ use Rattle.extreme_courses.specs.Extremes.{resets}
 abbrev pub earlyRefusal : Bool → Refusal → Outcome
 earlyRefusal begun r = Refused (cond begun r NoReset)
 
+-- whether *RST has begun the script once a command was not refused
 abbrev pub begunAfter : Bool → Kind → Bool
 begunAfter begun kind = begun || resets kind

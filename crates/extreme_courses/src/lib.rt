@@ -39,13 +39,15 @@ pub fn model_fits(model: Model) -> bool
     model.capacity <= Settings::CAPACITY_MOST
 }
 
-// What the check carries from command to command: whether *RST has begun the script, the settings, which every course
-// shares, and the moving parts of two courses: low has no events, high has at each gap the highest frequency that can
-// be measured and then a trigger.
+// What the check carries from command to command.
 pub struct Extremes {
+    // Whether *RST has begun the script.
     pub begun: bool,
+    // The settings, which every course shares.
     pub settings: Settings,
+    // The acquisition of the course that has no events.
     pub low: Acquisition,
+    // That of the course that has, before each line, the highest frequency that can be measured, and then a trigger.
     pub high: Acquisition,
 }
 
@@ -70,7 +72,7 @@ pub fn highest(harmonic: u32) -> u32
     Settings::DETECTION_LIMIT / harmonic
 }
 
-// The moving part once the highest frequency was measured, where one is measured at all.
+// The acquisition once the highest frequency was measured, where one is measured at all.
 fn measured_high(s: Settings, m: Acquisition) -> Acquisition
     ensures { λ r. ⌜ r ≡ measuredHigh s m ⌝ }
 {
@@ -82,7 +84,7 @@ fn measured_high(s: Settings, m: Acquisition) -> Acquisition
     t
 }
 
-// The moving part once a trigger has come.
+// The acquisition once a trigger has come.
 fn triggered_high(capacity: u32, s: Settings, m: Acquisition) -> Acquisition
     ensures { λ r. ⌜ r ≡ triggeredHigh capacity s m ⌝ }
 {

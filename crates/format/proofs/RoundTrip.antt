@@ -59,20 +59,20 @@ module _ (d n : ℕ) (s u : List ℕ) (signless : unsigned s ≡ u) (free : span
       rw (is-number l (omega arith), exact, mul-div-cancel n some, mul-mod-left n (10 ^ d), lt-leb (10 ^ d) 0 some, min-eq-right h)
 
 -- the point and what stands behind it: nothing where there are no decimals
-abbrev nextEntry : ℕ → ℕ → List ℕ
-nextEntry d n = cond (eqb d 0) [] (point ∷ padded d n)
+abbrev fraction : ℕ → ℕ → List ℕ
+fraction d n = cond (eqb d 0) [] (point ∷ padded d n)
 
-behind-free : (d n : ℕ) → span letterE (nextEntry d n) ≡ length (nextEntry d n)
+behind-free : (d n : ℕ) → span letterE (fraction d n) ≡ length (fraction d n)
 unfolding span
 behind-free zero n = refl
 behind-free (suc k) n = rw (eqb·suc-zero, span-all letterE (λ m e. omega arith) (suc k) n, padded-length)
 
-behind-point : (d n : ℕ) → span point (nextEntry d n) ≡ 0
+behind-point : (d n : ℕ) → span point (fraction d n) ≡ 0
 unfolding span
 behind-point zero n = refl
 behind-point (suc k) n = rw eqb·suc-zero
 
-behind-after : (d n : ℕ) → drop 1 (nextEntry d n) ≡ padded d n
+behind-after : (d n : ℕ) → drop 1 (fraction d n) ≡ padded d n
 behind-after zero n = sym (padded-empty n)
 behind-after (suc k) n = rw eqb·suc-zero
 
@@ -82,13 +82,13 @@ module _ (d n : ℕ) where
   unfolding fixed plain
   fixed-free =
       let w = n / 10 ^ d in
-      span-padded letterE (λ m e. omega arith) (digitCount w) w (nextEntry d n) ∙ rw (behind-free d n, length-append, padded-length (digitCount w) w)
+      span-padded letterE (λ m e. omega arith) (digitCount w) w (fraction d n) ∙ rw (behind-free d n, length-append, padded-length (digitCount w) w)
 
   fixed-span : span point (fixed d n) ≡ length (plain (n / 10 ^ d))
   unfolding fixed plain
   fixed-span =
       let w = n / 10 ^ d in
-      span-padded point (λ m e. omega arith) (digitCount w) w (nextEntry d n) ∙ rw (behind-point d n, padded-length (digitCount w) w, add-zero)
+      span-padded point (λ m e. omega arith) (digitCount w) w (fraction d n) ∙ rw (behind-point d n, padded-length (digitCount w) w, add-zero)
 
   fixed-front : before point (fixed d n) ≡ plain (n / 10 ^ d)
   unfolding fixed
@@ -109,8 +109,8 @@ read-above : (d n : ℕ) → d < digitLimit → n ≤ cap → readOf d (fixed d 
 unfolding fixed plain
 read-above d n l h =
     let w = n / 10 ^ d in
-    read-fixed d n (fixed d n) (unsigned-padded (digitCount w) w (nextEntry d n) (places-some w)) l h
-    ∙ ap (λ t. exactly t n) (begins-padded (digitCount w) w (nextEntry d n) (places-some w))
+    read-fixed d n (fixed d n) (unsigned-padded (digitCount w) w (fraction d n) (places-some w)) l h
+    ∙ ap (λ t. exactly t n) (begins-padded (digitCount w) w (fraction d n) (places-some w))
 
 pub read-again : ReadAgain
 unfolding signedText sign

@@ -1,4 +1,4 @@
--- What a command does leads from an allowed state to an allowed one. Assumes nothing.
+-- What a command does leads from a valid state to a valid one. Assumes nothing.
 use Prim.Native.Nat.{ℕ, _≤_}
 use native.Mathlib.Omega.{arith}
 use mathlib.Core.Path.{_≡_, refl}
@@ -58,7 +58,7 @@ end-valid : (s : Settings) (m : Acquisition) (v : ℕ) → valueAllowed s m send
 unfolding valueAllowed
 end-valid s m v p = p
 
--- settings beside a moving part, the time constant standing at the detection frequency before
+-- settings beside an acquisition, the time constant standing at the detection frequency before
 record Holds (old : ℕ) (s : Settings) (m : Acquisition) (capacity : ℕ) : Type 0 where
   tuned : Tuning old s (m .external)
   stored : Stored s m capacity

@@ -6,3 +6,4 @@ pub mod States
 pub mod StaysValid
 pub mod Bytes
 pub mod Meanings
+pub mod OneCommand

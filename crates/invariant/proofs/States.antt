@@ -1,4 +1,4 @@
--- Commands, lines and events lead from allowed states to allowed ones. Assumes nothing.
+-- Commands, lines and events lead from valid states to valid ones. Assumes nothing.
 use Prim.Native.Nat.{ℕ, _-_}
 use mathlib.Core.Path.{refl, _∙_}
 use mathlib.Core.Bool.{Bool, true, false, cond}

@@ -1,4 +1,4 @@
--- Every call leads from an allowed module to an allowed one. Assumes nothing.
+-- Every call leads from a valid module to a valid one. Assumes nothing.
 use Prim.Native.Nat.{ℕ}
 use native.Mathlib.Omega.{arith}
 use mathlib.Core.Path.{_≡_, refl, sym, _∙_}
@@ -109,7 +109,7 @@ fresh-queued : (u : Installation) → length (freshModule u .queue .bytes) ≡ q
 unfolding freshModule
 fresh-queued u = refl
 
--- allowed, with the queue's 256 bytes
+-- valid, with the queue's 256 bytes
 abbrev Whole : Module → Type 0
 Whole m = (validModule m ≡ true) × (length (m .queue .bytes) ≡ queue.lineLimit)
 
@@ -170,7 +170,7 @@ unfolding guarded
 guarded-goes report Done c m one two g = g
 guarded-goes report (Refused r) c m one two g = same-goes m one two
 
--- a queue that is as allowed as the module's was, with as many bytes
+-- a queue that is as valid as the module's was, with as many bytes
 record Follows (m : Module) (q : Queue) : Type 0 where
   kept : queue.isValid (m .queue) (m .state .installation .port) ≡ true → queue.isValid q (m .state .installation .port) ≡ true
   queued : length (q .bytes) ≡ length (m .queue .bytes)

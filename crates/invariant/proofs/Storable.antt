@@ -15,6 +15,7 @@ use Rattle.number.proofs.Exact.{under-pos}
 use Rattle.settings.specs.Table.{entries, oflt, send, nextEntry}
 use Rattle.settings.specs.Setting.{settingOf}
 use Rattle.settings.specs.Valid.{valueValid}
+use Rattle.settings.proofs.Values.{next-is}
 use Rattle.settings.proofs.Invariant.{setting-keeps}
 use Rattle.settings.proofs.Rounded.{Inside, taken-inside}
 use Rattle.outcome.specs.Code as refusals
@@ -35,7 +36,6 @@ use Rattle.command.specs.declared.Kind.the-variants.{Set, Query, Act}
 use Rattle.command.specs.declared.Parsed.{Parsed}
 use Rattle.command.specs.declared.Parsed.the-variants.{Empty, Taken, Refused}
 use Rattle.invariant.proofs.Meanings.{alike-keeps, name-of-one, name-of-channel, name-of-pair}
-use Rattle.demand2.proofs.AfterSet.{behind-is}
 
 -- the entries between OFLT and SEND, where those of settings with channels lie: no rule binds them
 abbrev pub channelLow : ℕ
@@ -139,7 +139,7 @@ module _ (name : List ℕ) (base channels : ℕ) (args : List (List ℕ)) where
       let pair = name-of-pair name base channels n (omega arith) (omega arith) e in
       let a = pair .2 in
       let b = pair .3 in
-      let z = behind-is (base + 2 * (n - 1)) (a .inside) in
+      let z = next-is (base + 2 * (n - 1)) (a .inside) in
       record {
         first = rw (alike-keeps a v) (setting-keeps base (omega arith) x v q);
         second = rw (z, alike-keeps b w) (setting-keeps (base + 1) (omega arith) y w r);

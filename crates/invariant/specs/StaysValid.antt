@@ -1,4 +1,4 @@
--- Allowed states stay allowed, so that refusal 11 never meets a state that we made: document 01, refusal 11, and
+-- Valid states stay valid, so that refusal 11 never meets a state that we made: document 01, refusal 11, and
 -- refusal 9 for the traces.
 use Prim.Native.Nat.{ℕ}
 use mathlib.Core.Bool.{Bool, true}
@@ -21,7 +21,7 @@ use Rattle.module.specs.declared.Module.{Module}
 use Rattle.lockin.specs.Start.{startCall}
 use Rattle.lockin.specs.Calls.{lineCall, byteCall, eventCall}
 
--- from a state and its traces to others: an allowed state stays allowed, what is fixed at start stays, and each trace
+-- from a state and its traces to others: a valid state stays valid, what is fixed at start stays, and each trace
 -- keeps its length
 pub record Stays (before after : State) (one two first second : List ℕ) : Type 0 where
   pub valid : validState before ≡ true → validState after ≡ true
@@ -29,7 +29,7 @@ pub record Stays (before after : State) (one two first second : List ℕ) : Type
   pub first-length : length first ≡ length one
   pub second-length : length second ≡ length two
 
--- a fresh state is allowed, and every command, every line and every event leads from an allowed state to an allowed one
+-- a fresh state is valid, and every command, every line and every event leads from a valid state to a valid one
 pub record StatesStay : Type 0 where
   pub start : (u : Installation) → installationValid u ≡ true → validState (startState u) ≡ true
   pub command : (room : ℕ) (waiting : Bool) (text : List ℕ) (s : State) (one two : List ℕ) →
@@ -42,7 +42,7 @@ pub record StatesStay : Type 0 where
       let e = eventOf event s one two in
       Stays s (e .after) one two (e .one) (e .two)
 
--- from a module and its traces to others: an allowed module stays allowed, and where neither 11 (the state) nor 9 (the
+-- from a module and its traces to others: a valid module stays valid, and where neither 11 (the state) nor 9 (the
 -- traces) refuses a call, neither refuses the next one; the queue's bytes stay as many
 pub record Goes (before after : Module) (one two first second : List ℕ) : Type 0 where
   pub valid : validModule before ≡ true → validModule after ≡ true
@@ -62,7 +62,7 @@ pub data Reachable : Module → Type 0 where
   -- by an event
   byEvent : (event : Event) (m : Module) (one two : List ℕ) → Reachable m → Reachable (eventCall event m one two .after)
 
--- every start, refused ones too, gives an allowed module whose queue has all its bytes; where the start is not refused,
+-- every start, refused ones too, gives a valid module whose queue has all its bytes; where the start is not refused,
 -- 9 does not refuse the traces either; every line, byte and event leads on from there, so that no module that we made
 -- is refused by 11
 pub record StaysValid : Type 0 where

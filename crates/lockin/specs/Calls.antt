@@ -28,17 +28,19 @@ use Rattle.lockin.specs.declared.LineResult.{LineResult}
 use Rattle.lockin.specs.declared.EventResult.{EventResult}
 use Rattle.lockin.specs.declared.PollResult.{PollResult}
 
--- what a call with a line or a byte leaves, and what the code gives back of it
+-- what a call with a line or a byte leaves
 abbrev pub Call : Type 0
 Call = After Module Report
 
+-- what the code gives back of it
 abbrev pub lineResult : Call → LineResult
 lineResult c = record { after = c .after; report = c .report }
 
--- what a call with an event leaves, and what the code gives back of it
+-- what a call with an event leaves
 abbrev pub EventCall : Type 0
 EventCall = After Module Outcome
 
+-- what the code gives back of it
 abbrev pub eventResult : EventCall → EventResult
 eventResult c = record { after = c .after; outcome = c .report }
 
@@ -64,7 +66,7 @@ guarded report (outcome.Refused r) step s one two = silent (report r) s one two
 abbrev pub refusedWhole : Refusal → Report
 refusedWhole r = reportOf (answer.Refused r 0) 0
 
--- the length told of a line: under 4 "the line's length told as 0"
+-- the length reported of a line: under 4 "the line's length told as 0"
 abbrev pub reportedLength : Line → ℕ
 reportedLength l = cond (l .report .dropped) 0 (length (l .out))
 
@@ -106,7 +108,8 @@ lineCall room line m one two =
 -- what comes of a byte that left this queue: nothing ends, or the line that waits ends, runs and leaves the queue
 -- empty, or it is too long
 unfoldable pub receivedCall : LineEnd → Queue → ℕ → Module → List ℕ → List ℕ → Call
-receivedCall e q room m one two = withQueue (queue.afterRun e q) (lineEnd e room (queue.waitingBytes q) (m .state) one two)
+receivedCall e q room m one two =
+    withQueue (queue.afterRun e q) (lineEnd e room (queue.waitingBytes q) (m .state) one two)
 
 -- a byte with its end mark
 unfoldable pub byteReceived : ℕ → ℕ → Bool → Module → List ℕ → List ℕ → Call
@@ -127,7 +130,7 @@ eventCall e m one two =
     guarded outcome.Refused (guardOf m (length one) (length two))
     (withQueue (m .queue) (eventOf e (m .state) one two)) m one two
 
--- a serial poll: the status byte between lines, told as 0 under 11, "a state outside the ranges, steps and limits
+-- a serial poll: the status byte between lines, 0 under 11, "a state outside the ranges, steps and limits
 -- above"
 unfoldable pub pollCall : Module → PollResult
 pollCall m =

@@ -14,7 +14,7 @@ use Rattle.reply_buffer.specs.After.{After}
 use Rattle.line.specs.declared.Progress.{Progress}
 use Rattle.lockin.specs.declared.StateResult.{StateResult}
 
--- the length told of a line as the code has it
+-- the length reported of a line as the code has it
 abbrev pub lengthOf : Progress → ℕ
 lengthOf p = cond (p .dropped) 0 (p .at)
 

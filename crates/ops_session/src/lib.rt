@@ -33,7 +33,7 @@ pub fn first_session() -> Session {
 
 // Answers what is no operation, and leaves the module as it is.
 fn reject(m: Module) -> Module {
-    reply::report_invalid();
+    answer::report_invalid();
     m
 }
 
@@ -48,12 +48,12 @@ fn run_query(
     match operation {
         Operation::Poke(trace, slot, word) => call::write_slot(trace, slot, word, one, two),
         Operation::Dump => dump::report_state(m, one, two),
-        Operation::Poll => reply::report_poll(m),
+        Operation::Poll => answer::report_poll(m),
         Operation::Check(capacity, len) => {
             let model = Model::of_capacity(capacity);
             check_input::report_verdict(script::check(model, terminal::first_bytes(bytes, len)))
         }
-        _ => reply::report_invalid(),
+        _ => answer::report_invalid(),
     }
     m
 }
@@ -85,7 +85,7 @@ fn run_on_slots(
         ),
         Operation::Event(e) => call::run_event(m, e, one, two),
         Operation::Alter(field, value) => {
-            reply::report_done();
+            answer::report_done();
             alter::with_field(m, field, value, bytes)
         }
         _ => run_query(m, operation, bytes, one, two),
@@ -141,7 +141,7 @@ pub fn run_line(
         return s;
     }
     if line.len() < len {
-        reply::report_invalid();
+        answer::report_invalid();
         return s;
     }
     run_text(s, &line[0..len], bytes, one, two)

@@ -1,4 +1,4 @@
--- A line's answer, which refusal drops the rest of a line, and what is told: document 01, "Refusal numbers" and
+-- A line's answer, which refusal drops the rest of a line, and what is reported: document 01, "Refusal numbers" and
 -- "Lines and commands".
 use Prim.Native.Nat.{ℕ}
 use mathlib.Core.Bool.{Bool, false}

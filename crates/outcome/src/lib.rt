@@ -30,7 +30,7 @@ pub enum Refusal {
     BadState,
 }
 
-// What is told of a command, a line, an event or a start: done, or refused.
+// How a command, an event or a start ends: done, or refused.
 pub enum Outcome {
     // Nothing is refused.
     Done,

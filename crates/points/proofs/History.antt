@@ -54,7 +54,7 @@ use Rattle.invariant.proofs.Storable.{StorableSet, Storable, StorableParsed, pa
 use Rattle.invariant.proofs.States.{states-stay}
 use Rattle.points.proofs.Slots.{next-mod, longer, more-lies}
 
--- an allowed state, and a slot of each trace for each point
+-- a valid state, and a slot of each trace for each point
 pub record Fits (s : State) (one two : List ℕ) : Type 0 where
   pub valid : validState s ≡ true
   pub first : length one ≡ s .installation .capacity
@@ -183,7 +183,7 @@ module _ (history : History) (s t : State) (one two : List ℕ) (h : Holds histo
 -- ---- events
 
 module _ (history : History) (s : State) (one two : List ℕ) (h : Holds history s one two) (f : Fits s one two) where
-  -- a state with the same storage, SEND and unit
+  -- a state with the same storage, SEND and installation
   abbrev As : State → Type 0
   As t = Holds history t one two
 

@@ -36,7 +36,7 @@ use Rattle.points.specs.Points.{afterByteCall, afterEvent, afterEventCal
 use Rattle.points.specs.Points.{byEvent, PointsKept, traceQuery, RepliesPoints}
 use Rattle.invariant.proofs.StaysValid.{passes, start-by}
 use Rattle.points.proofs.History.{Fits, emptied-holds, event-holds, marked-holds, line-holds}
-use Rattle.demand2.proofs.Says.{asked-call, asked-refused}
+use Rattle.demand2.proofs.Asked.{asked-call, asked-refused}
 use Rattle.points.proofs.Replies.{says-points, says-trace, points-same, trace-same}
 use Rattle.points.proofs.Replies.{points-reply, trace-allowed, trace-reply}
 

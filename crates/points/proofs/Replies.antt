@@ -31,7 +31,7 @@ use Rattle.reply.specs.Text.{textOf, terminatorOf}
 use Rattle.reply.specs.Reply.{terminatedText, traceOf, traceReply, queryReply}
 use Rattle.points.specs.Points.{History, InSlots, pairAt, Holds, heldOf, wordOf, sentOf, traceName, traceQuery}
 use Rattle.invariant.proofs.Meanings.{Name}
-use Rattle.demand2.proofs.Says.{Says}
+use Rattle.invariant.proofs.OneCommand.{Says}
 use Rattle.demand2.proofs.Parsing.{trace-asked}
 use Rattle.points.proofs.Slots.{bin-mod}
 

@@ -33,7 +33,7 @@ use Rattle.module.specs.Module.{guardOf}
 use Rattle.module.specs.declared.Module.{Module}
 use Rattle.lockin.specs.Calls.{withQueue, guarded, lineRan, lineCall, eventCall}
 use Rattle.points.specs.Points.{DoesAs, TrigIsTrigger}
-use Rattle.demand2.proofs.Says.{Says, said-call}
+use Rattle.invariant.proofs.OneCommand.{Says, said-call}
 
 says-trig : Says (bytes "TRIG") (Act Trigger)
 unfolding cleaned parts onHead parsedOf begins meaningIn setWith arguments alone

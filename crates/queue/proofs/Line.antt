@@ -1,4 +1,4 @@
--- A line's bytes, fed one at a time, wait in their order, and never more than 256 wait. Assumes nothing.
+-- A line's bytes, received one at a time, wait in their order, and never more than 256 wait. Assumes nothing.
 use Prim.Native.Nat.{ℕ, _+_, _≤_, _<_}
 use mathlib.Core.Path.{_≡_, sym, ap, _∙_}
 use mathlib.Core.Bool.{Bool, true, false, cond, not, and-eq-true-iff}

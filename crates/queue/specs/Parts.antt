@@ -18,8 +18,8 @@ queueOf bytes len discarding = record { bytes = bytes; len = len; discarding = d
 abbrev pub storedIn : Bool → ℕ → ℕ → List ℕ → List ℕ
 storedIn stores at b bytes = cond (stores && ltb at lineLimit) (set bytes at b) bytes
 
--- the step r says what a byte b does to every queue in which len bytes wait: fed, the result, which is the queue after
--- it and what it ends; run, the queue once a line that ended has run
+-- the step r says what a byte b does to every queue in which len bytes wait: received, the result, which is the queue
+-- after it and what it ends; run, the queue once a line that ended has run
 pub record Describes (result : List ℕ → Received) (len b : ℕ) (r : QueueStep) : Type 0 where
   pub received : (bytes : List ℕ) → result bytes
       ≡ record { queue = queueOf (storedIn (r .stores) len b bytes) (r .line) (r .discarding); ending = r .ending }

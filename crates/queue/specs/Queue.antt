@@ -72,7 +72,8 @@ tooLongOf q marked = record { queue = discardingIs (not marked) (emptiedOf q); e
 -- a byte that ends no line by itself: one that fits is added, and ends the line where it is marked
 unfoldable pub appendedOf : Queue → ℕ → Bool → Received
 appendedOf q b marked =
-    cond (ltb (q .len) lineLimit) (record { queue = longer q b; ending = cond marked Line Nothing }) (tooLongOf q marked)
+    cond (ltb (q .len) lineLimit) (record { queue = longer q b; ending = cond marked Line Nothing })
+    (tooLongOf q marked)
 
 -- any byte: one that ends a line by itself is no part of it, and its end mark ends no second line
 unfoldable pub receivedOf : Queue → ℕ → ℕ → Bool → Received

@@ -3,7 +3,8 @@ ghost use mathlib.Core.Path.{_≡_};
 ghost use mathlib.Core.Bool.{true, false};
 ghost use Prim.Native.Nat.{_+_, _≤_, min};
 ghost use lib.ListN.{length, take, drop};
-ghost use Rattle.queue.specs.Queue.{lineLimit, emptyQueue, endsLine, isMarked, appendedOf, receivedOf, noEnd, isValid};
+ghost use Rattle.queue.specs.Queue.{lineLimit, emptyQueue, endsLine, isMarked, appendedOf, receivedOf};
+ghost use Rattle.queue.specs.Queue.{noEnd, isValid};
 ghost use Rattle.queue.specs.Parts.{queueOf, storedIn, Describes, block, EndNone};
 use line_text::LINE;
 
@@ -90,7 +91,7 @@ fn is_marked(port: u8, mark: bool) -> bool
 }
 
 // A byte that ends no line by itself, after `len` bytes: the line's last one where it is marked.
-fn added(len: usize, b: u8, marked: bool) -> QueueStep
+fn appended(len: usize, b: u8, marked: bool) -> QueueStep
     ensures { λ r. ⌜ Describes (λ bytes. appendedOf (queueOf bytes len false) b marked) len b r ⌝ }
 {
     if LINE <= len {
@@ -144,7 +145,7 @@ pub fn step_of(len: usize, discarding: bool, port: u8, b: u8, mark: bool) -> Que
             ending: LineEnd::Line,
         };
     }
-    added(len, b, marked)
+    appended(len, b, marked)
 }
 
 // Stores a byte at the offset `at`, if it is to be stored.

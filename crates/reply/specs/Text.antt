@@ -20,7 +20,8 @@ use Rattle.state.specs.declared.State.{State}
 
 -- "The one in force follows FMOD, and FREQ? replies it."
 unfoldable pub valueNow : State → ℕ → ℕ
-valueNow s entry = cond (eqb entry freq) (inForce (s .settings) (s .acquisition .external)) (valueOf (s .settings) entry)
+valueNow s entry =
+    cond (eqb entry freq) (inForce (s .settings) (s .acquisition .external)) (valueOf (s .settings) entry)
 
 -- "whole numbers plain; PHAS and OEXP x with 2 decimals, SLVL and AUXV 3, FREQ 4; minus only below zero"
 unfoldable pub valueText : State → ℕ → List ℕ

@@ -48,7 +48,7 @@ front-more s o i hs ho =
     let h : 0 + i < length o = omega arith in
     rw add-one (simp zero-add at (paste-suc o 0 s i 0 h hs))
 
--- what is written fits, and its length is what is told
+-- what is written fits, and its length is what is reported
 pub sentBytes-length : (bytes : List ℕ) (room : ℕ) → length (sentBytes bytes room) ≤ room
 unfolding sentBytes fitsIn
 sentBytes-length bytes room =

@@ -1,5 +1,5 @@
--- What only inner functions are held to: what is told of a reply, and the slot at which sending begins. No promise of a
--- public call speaks of these.
+-- What only inner functions are held to: what is reported of a reply, and the slot at which sending begins. No promise
+-- of a public call speaks of these.
 use Prim.Native.Nat.{ℕ, _%_}
 use mathlib.Core.Bool.{cond}
 use mathlib.Core.Path.{_≡_}
@@ -9,7 +9,7 @@ use lib.ListN.{length}
 use Rattle.reply_buffer.specs.Buffer.{overwrite, fitsIn, sentBytes}
 use Rattle.reply_buffer.specs.declared.Sent.{Sent}
 
--- what is told of a reply: whether it fits, and how many bytes were written
+-- what is reported of a reply: whether it fits, and how many bytes were written
 abbrev pub sentOf : List ℕ → ℕ → Sent
 sentOf bytes room = record { fits = fitsIn bytes room; written = cond (fitsIn bytes room) (length bytes) 0 }
 

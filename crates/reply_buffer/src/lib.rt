@@ -105,7 +105,8 @@ fn put_word(x: u32, at: usize, out: &mut [u8])
 // Points of a trace from a place on, at the front of out.
 fn put_points(trace: &[u32], first: usize, count: usize, form: Form, out: &mut [u8])
     requires { ⌜ (first + count < 18446744073709551616) × (4 * count ≤ length (now out)) ⌝ }
-    ensures { λ _. ⌜ now (out .exit) ≡ overwrite (pointBytes form (now (trace .entry)) first count) (now (out .entry)) ⌝ }
+    ensures { λ _. ⌜ now (out .exit)
+        ≡ overwrite (pointBytes form (now (trace .entry)) first count) (now (out .entry)) ⌝ }
 {
     let mut i = 0;
     while i < count {

@@ -28,6 +28,7 @@ unfoldable pub answerAt : Outcome → ℕ → Answer → Answer
 answerAt outcome.Done place later = later
 answerAt (outcome.Refused r) place later = answer.Refused r place
 
+-- the first refusal among a line's commands, with its place
 unfoldable pub textsAnswer : Model → ℕ → List (List ℕ) → Extremes → Answer
 textsAnswer model place [] b = answer.Passed
 textsAnswer model place (t ∷ ts) b =
@@ -70,9 +71,10 @@ later (stop i place r) = stop (suc i) place r
 
 -- a line's answer, and what is found behind it
 unfoldable pub foundBy : Answer → Finding → Finding
-foundBy answer.Passed nextEntry = later nextEntry
-foundBy (answer.Refused r place) nextEntry = stop 0 place r
+foundBy answer.Passed rest = later rest
+foundBy (answer.Refused r place) rest = stop 0 place r
 
+-- what the check finds in the lines of a script
 unfoldable pub finding : Model → List (List ℕ) → Extremes → Finding
 finding model [] b = cond (b .begun) fine noCommand
 finding model (l ∷ ls) b = foundBy (lineAnswer model l b) (finding model ls (lineAfter model l b))

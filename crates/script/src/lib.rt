@@ -96,7 +96,7 @@ fn check_lines(model: Model, script: &[u8]) -> Verdict
     Verdict::No(1, 1, Refusal::NoReset)
 }
 
-// Whether a script can be refused in any course, run by a module of what is told.
+// Whether a script can be refused in any course, run by a module of the model.
 pub fn check(model: Model, script: &[u8]) -> Verdict
     ensures { λ r. ⌜ r ≡ checkOf model (now (script .entry)) ⌝ }
     ensures { λ r. ⌜ verdictNumbers r ≡ verdictNumbers (checkOf model (now (script .entry))) ⌝ }

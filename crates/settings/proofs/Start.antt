@@ -11,7 +11,7 @@ use Rattle.settings.specs.Setting.{stepOf}
 use Rattle.settings.specs.Valid.{valueValid, every, valuesValid, validSettings}
 use Rattle.settings.specs.declared.Row.{Row}
 
--- a fresh module's settings are allowed: every start in its range and on its step
+-- a fresh module's settings are valid: every start in its range and on its step
 pub start-valid : validSettings startSettings externalStart ≡ true
 unfolding table rowOf startSettings stepBy inForce detectionOf stepOf valueValid every valuesValid validSettings
 start-valid = refl

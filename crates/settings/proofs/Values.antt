@@ -1,12 +1,12 @@
 -- The values once one of them is set, and the detection frequency, which goes by three of them alone. Assumes nothing.
-use Prim.Native.Nat.{ℕ}
+use Prim.Native.Nat.{ℕ, _+_, _<_}
 use mathlib.Core.Path.{_≡_, refl}
 use mathlib.Core.Bool.{Bool, true, false}
 use lib.Dec.{ltb, eqb}
 use lib.ListN.{length, List·getD-eq-default}
 use lib.Seq.{getD-set-same, getD-set-other, set-out}
-use borrow.Author.Tests.{ltb-true, ltb-false, eqb-true, eqb-false}
-use Rattle.settings.specs.Table.{fmod, freq, harm, valueOf, withValue}
+use borrow.Author.Tests.{ltb-true, ltb-false, lt-ltb, eqb-true, eqb-false}
+use Rattle.settings.specs.Table.{entries, fmod, freq, harm, nextEntry, valueOf, withValue}
 use Rattle.settings.specs.Frequency.{inForce, detectionOf}
 use Rattle.settings.specs.declared.Settings.{Settings}
 
@@ -44,3 +44,8 @@ pub detection-other : (s : Settings) (e v : ℕ) → (harm ≡ e → ⊥) → (f
 detection-other s e v h m f =
     detection-by (withValue s e v) s (getD-set-other (s .values) e harm v 0 h) (getD-set-other (s .values) e fmod v 0 m)
     (getD-set-other (s .values) e freq v 0 f)
+
+-- the entry after an entry of the table
+pub next-is : (entry : ℕ) → entry < entries → nextEntry entry ≡ entry + 1
+unfolding nextEntry
+next-is entry h = rw (lt-ltb entry entries h)

@@ -1,4 +1,4 @@
--- A state is allowed where each of its parts is: where one part is replaced, the others are passed on. Assumes nothing.
+-- A state is valid where each of its parts is: where one part is replaced, the others are passed on. Assumes nothing.
 use Prim.Native.Nat.{ℕ, _+_, _%_, _≤_}
 use native.Mathlib.Omega.{arith}
 use native.Mathlib.Nat.{mod-one}
@@ -51,7 +51,7 @@ pub record Tuning (d : ℕ) (x : Settings) (f : ℕ) : Type 0 where
 abbrev pub Stored : Settings → Acquisition → ℕ → Type 0
 Stored x m capacity = storage.isValid (m .storage) capacity (valueOf x send) ≡ true
 
--- a state whose time constant stands at d; it is allowed where d is its own detection frequency
+-- a state whose time constant stands at d; it is valid where d is its own detection frequency
 pub record Sound (d : ℕ) (s : State) : Type 0 where
   pub tuned : Tuning d (s .settings) (s .acquisition .external)
   pub stored : Stored (s .settings) (s .acquisition) (s .installation .capacity)
@@ -59,7 +59,7 @@ pub record Sound (d : ℕ) (s : State) : Type 0 where
   pub latest : latestValid (s .latest) ≡ true
   pub installation : installationValid (s .installation) ≡ true
 
--- allowed settings, by their rules
+-- valid settings, by their rules
 pub tuning : (x : Settings) (f : ℕ) → validSettings x f ≡ true → Tuning (detectionOf x f) x f
 unfolding validSettings
 tuning x f h =
@@ -68,7 +68,7 @@ tuning x f h =
     let detection = and-eq-true-iff (withinLimit (detectionOf x f)) _ .0 (frequency .1) in
     record { values = set .0; external = frequency .0; limit = detection .0; stands = detection .1 }
 
--- an allowed state, by its parts
+-- a valid state, by its parts
 pub sound : (s : State) → validState s ≡ true → Sound (detectionNow s) s
 unfolding validState partsValid
 sound s h =
@@ -94,7 +94,7 @@ sound-valid s k =
 -- ---- one part replaced
 
 module _ {d : ℕ} {s : State} (k : Sound d s) where
-  -- other settings and another moving part
+  -- other settings and another acquisition
   pub with-acquisition : {new : ℕ} (x : Settings) (m : Acquisition) → Tuning new x (m .external) →
       Stored x m (s .installation .capacity) → Sound new (withAcquisition m (withSettings x s))
   with-acquisition x m t p = record { tuned = t; stored = p; bits = k .bits; latest = k .latest; installation = k .installation }
@@ -110,7 +110,7 @@ module _ {d : ℕ} {s : State} (k : Sound d s) where
 
 -- ---- at start and after *RST
 
--- a unit's capacity is in its range
+-- an installation's capacity is in its range
 pub record Capacity (u : Installation) : Type 0 where
   pub least : capacityLeast ≤ u .capacity
   pub most : u .capacity ≤ capacityMost
@@ -179,7 +179,7 @@ crossing-bits old new constant = by (crosses old new) (lifts old new && leb 14 c
   by false true = refl
   by false false = refl
 
--- the time constant stood at the old detection frequency, and all else of the state is allowed at the new one
+-- the time constant stood at the old detection frequency, and all else of the state is valid at the new one
 pub crossed-valid : (old : ℕ) (s : State) → Sound old s → validState (crossedFrom old s) ≡ true
 unfolding crossedFrom
 crossed-valid old s k =

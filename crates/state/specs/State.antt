@@ -46,11 +46,11 @@ startState u =
 
 -- ---- one part replaced, the others as they were
 
--- the moving part at another external frequency
+-- the acquisition at another external frequency
 abbrev pub atFrequency : ℕ → Acquisition → Acquisition
 atFrequency f m = record { external = f; storage = m .storage }
 
--- the moving part with another storage
+-- the acquisition with another storage
 abbrev pub withStorage : Storage → Acquisition → Acquisition
 withStorage t m = record { external = m .external; storage = t }
 
@@ -63,7 +63,7 @@ withParts x m r e l s =
 abbrev pub withSettings : Settings → State → State
 withSettings x s = withParts x (s .acquisition) (s .registers) (s .enables) (s .latest) s
 
--- a state with another moving part
+-- a state with another acquisition
 abbrev pub withAcquisition : Acquisition → State → State
 withAcquisition m s = withParts (s .settings) m (s .registers) (s .enables) (s .latest) s
 

@@ -1,4 +1,4 @@
--- The states that are allowed: refusal 11, "a state outside the ranges, steps and limits above, its serial and port
+-- The valid states: refusal 11, "a state outside the ranges, steps and limits above, its serial and port
 -- included".
 use Prim.Native.Nat.{ℕ}
 use mathlib.Core.Bool.{Bool, _&&_}

@@ -202,7 +202,7 @@ fn installation_valid(u: Installation) -> bool
     (u.serial <= SERIAL_MOST) & ((u.port <= GPIB) & fits)
 }
 
-// Whether storage, status and settings are those of an allowed state.
+// Whether storage, status and settings are those of a valid state.
 fn parts_valid(s: State) -> bool
     ensures { λ r. ⌜ r ≡ partsValid s ⌝ }
 {

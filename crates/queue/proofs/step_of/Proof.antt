@@ -35,8 +35,8 @@ returns-3 c =
             sym (marks .before .ends-line .ensures) ∙ ends .if2 .left,
             ← marks .is-marked .ensures,
           )
-          (c .added .ensures .received bytes);
-      run = c .added .ensures .run;
+          (c .appended .ensures .received bytes);
+      run = c .appended .ensures .run;
     }
 
 pub step-of-spec : {M : Type 1} → statement M

@@ -1,4 +1,4 @@
--- `script::check_line` meets its contract: the line is cleaned, then swept. Assumes nothing.
+-- `script::check_line` meets its contract: the line is cleaned, then its commands are checked. Assumes nothing.
 use mathlib.Core.Path.{_≡_, sym}
 use native.Mathlib.Nat.{sub-zero}
 use native.Mathlib.Omega.{arith}

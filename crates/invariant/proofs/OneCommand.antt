@@ -1,42 +1,33 @@
 -- A line that is one command: what a call with it does. Assumes nothing.
 use Prim.Native.Nat.{ℕ, _≤_}
 use mathlib.Core.Bool.{Bool, true, false, cond}
-use mathlib.Core.Path.{_≡_, refl, _∙_}
+use mathlib.Core.Path.{_≡_, refl}
 use mathlib.Core.List.{List, [], _∷_}
 use native.Mathlib.Nat.{sub-zero}
 use lib.ListN.{length}
 use borrow.Author.Tests.{le-leb}
 use Rattle.split.specs.Divide.{parts}
-use Rattle.line_text.specs.Clean.{cleaned}
-use Rattle.outcome.specs.declared.Refusal.the-variants.{NotAllowed}
+use Rattle.line_text.specs.Clean.{lineLimit, cleaned}
+use Rattle.line_text.specs.Texts.{semicolon}
 use Rattle.outcome.specs.declared.Outcome.the-variants.{Done}
-use Rattle.outcome.specs.declared.Answer.the-variants.{Refused}
-use Rattle.outcome.specs.Answer.{firstOf, drops}
 use Rattle.command.specs.Parsed.{parsedOf, taken}
-use Rattle.command.specs.declared.QueryArgument.{QueryArgument}
 use Rattle.command.specs.declared.Kind.{Kind}
-use Rattle.command.specs.declared.Kind.the-variants.{Query}
-use Rattle.state.specs.Storing.{storedIn}
 use Rattle.state.specs.declared.State.{State}
-use Rattle.precondition.specs.Allowed.{queryAllowed, isAllowed}
-use Rattle.effect.specs.Effect.{storageAfter, stateAfter}
-use Rattle.reply_buffer.specs.Buffer.{fitsIn}
-use Rattle.reply.specs.Reply.{queryReply, replyOf}
-use Rattle.line.specs.Perform.{doneBy, performed, commandOf}
+use Rattle.line.specs.Perform.{performed, commandOf}
 use Rattle.line.specs.Line.{Line, startLine, afterOf, afterCommand, runAll, lineOf}
 use Rattle.module.specs.Module.{guardOf}
 use Rattle.module.specs.declared.Module.{Module}
 use Rattle.lockin.specs.Calls.{withQueue, guarded, lineRan, lineEnd, wholeEnd, wholeLine, lineCall}
-use Rattle.demand2.specs.Demand2.{answered}
 
 -- a line that is one command and is refused by neither 1 nor 2: short enough, no byte of it dropped or changed, not
 -- divided, and taken
 pub record Says (text : List ℕ) (kind : Kind) : Type 0 where
-  pub short : length text ≤ 256
+  pub short : length text ≤ lineLimit
   pub kept : cleaned text ≡ text
-  pub single : parts 59 text ≡ text ∷ []
+  pub single : parts semicolon text ≡ text ∷ []
   pub read : parsedOf text ≡ taken kind
 
+-- both branches are one line
 either : (t : Bool) (l : Line) → cond t l l ≡ l
 either true l = refl
 either false l = refl
@@ -51,11 +42,12 @@ said-line text kind says room s one two =
 
 -- a call with a line that 11, 9 and 5 do not refuse
 pub open-call : (room : ℕ) (text : List ℕ) (m : Module) (one two : List ℕ) →
-    guardOf m (length one) (length two) ≡ Done → length text ≤ 256 →
+    guardOf m (length one) (length two) ≡ Done → length text ≤ lineLimit →
     lineCall room text m one two ≡ withQueue (m .queue) (lineRan (lineOf room text (m .state) one two))
 unfolding lineCall wholeLine wholeEnd lineEnd guarded
-open-call room text m one two passes short = rw (passes, le-leb (length text) 256 short) refl
+open-call room text m one two passes short = rw (passes, le-leb (length text) lineLimit short) refl
 
+-- a call with such a line that neither 11 nor 9 refuses
 pub said-call : (text : List ℕ) (kind : Kind) → Says text kind → (room : ℕ) (m : Module) (one two : List ℕ) →
     guardOf m (length one) (length two) ≡ Done →
     lineCall room text m one two
@@ -63,20 +55,3 @@ pub said-call : (text : List ℕ) (kind : Kind) → Says text kind → (room : �
     (lineRan (afterOf (startLine (m .state) one two) (performed room false kind (m .state) one two)))
 said-call text kind says room m one two passes =
     rw (open-call room text m one two passes (says .short), said-line text kind says room (m .state) one two) refl
-
-module _ (text : List ℕ) (q : QueryArgument) (says : Says text (Query q)) (room : ℕ) (m : Module) (one two : List ℕ)
-    (passes : guardOf m (length one) (length two) ≡ Done)
-  where
-    -- a query that clears nothing, with room for its reply
-    pub asked-call : (out : List ℕ) → stateAfter (Query q) (m .state) ≡ m .state →
-        queryAllowed (m .state .acquisition) q ≡ true → queryReply q (m .state) false one two ≡ out → length out ≤ room →
-        lineCall room text m one two ≡ answered out m one two
-    unfolding performed isAllowed replyOf fitsIn doneBy storageAfter storedIn afterOf firstOf drops
-    asked-call out same allowed reply fits =
-        said-call text (Query q) says room m one two passes ∙ rw (allowed, reply, le-leb (length out) room fits, same)
-
-    -- a query that 3 refuses
-    pub asked-refused : queryAllowed (m .state .acquisition) q ≡ false →
-        lineCall room text m one two .report .answer ≡ Refused NotAllowed 1
-    unfolding performed isAllowed afterOf firstOf
-    asked-refused refused = rw (said-call text (Query q) says room m one two passes, refused)

@@ -1,10 +1,10 @@
--- `queue::added` meets its contract: byte 257 is told, any other is added. Assumes nothing.
+-- `queue::appended` meets its contract: byte 257 is too long, any other is appended. Assumes nothing.
 use mathlib.Core.Path.{refl}
 use borrow.Author.Needs.{needs}
 use borrow.Author.Tests.{lt-ltb, le-ltb}
 use Rattle.queue.specs.Queue.{appendedOf, tooLongOf}
-use Rattle.queue.proofs.added.Statement.{statement}
-use Rattle.queue.proofs.added.Tie as tie
+use Rattle.queue.proofs.appended.Statement.{statement}
+use Rattle.queue.proofs.appended.Tie as tie
 
 returns : tie.Need-returns
 unfolding appendedOf tooLongOf
@@ -22,7 +22,7 @@ returns-3 c =
     let room = lt-ltb _ _ (c .before .if1 .left) in
     record { received = λ bytes. rw (room, c .if2 .left); run = λ bytes. refl }
 
-pub added-spec : {M : Type 1} → statement M
-added-spec =
+pub appended-spec : {M : Type 1} → statement M
+appended-spec =
     tie.close
     (tie.spec returns (λ c. search needs) returns-2 (λ c. search needs) (λ c. search needs) returns-3)
