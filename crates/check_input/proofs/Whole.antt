@@ -86,8 +86,8 @@ kept (b ∷ bs) c n script h =
 abbrev unended : ℕ → List ℕ → Memory
 unended c script = memory (record { ending = false; capacity = c; len = 0 }) script
 
-abbrev VerdictNumbers : List ℕ → ℕ → List ℕ → Type 0
-VerdictNumbers input c lent =
+abbrev Agrees : List ℕ → ℕ → List ℕ → Type 0
+Agrees input c lent =
     verdictFrom (afterBytes input (unended c lent))
     ≡ limitedCheck (capacityAll (before lineFeed input) c) (take (length lent) (after lineFeed input))
 
@@ -113,7 +113,7 @@ module _ (b : ℕ) (bs : List ℕ) (c : ℕ) (lent : List ℕ) where
   abbrev from : ℕ → Verdict
   from n = limitedCheck (capacityAll (take n (b ∷ bs)) c) (take (length lent) (drop (suc n) (b ∷ bs)))
 
-  line-turn : (t : Bool) → eqb b lineFeed ≡ t → VerdictNumbers bs (capacityAfter b c) lent → VerdictNumbers (b ∷ bs) c lent
+  line-turn : (t : Bool) → eqb b lineFeed ≡ t → Agrees bs (capacityAfter b c) lent → Agrees (b ∷ bs) c lent
   unfolding afterBytes capacityAll
   line-turn true e later =
       let k = kept bs c 0 lent (omega arith) in
@@ -122,7 +122,7 @@ module _ (b : ℕ) (bs : List ℕ) (c : ℕ) (lent : List ℕ) where
       ∙ sym (ap from (span-none e))
   line-turn false e later = ap (λ h. verdictFrom (afterBytes bs h)) (goes-on e) ∙ later ∙ sym (ap from (span-more e))
 
-line-one : (input : List ℕ) (c : ℕ) (lent : List ℕ) → VerdictNumbers input c lent
+line-one : (input : List ℕ) (c : ℕ) (lent : List ℕ) → Agrees input c lent
 line-one [] c lent = unfold afterBytes capacityAll span in rw (take-nil (length lent))
 line-one (b ∷ bs) c lent = line-turn b bs c lent (eqb b lineFeed) refl (line-one bs (capacityAfter b c) lent)
 
