@@ -9,8 +9,8 @@ use Rattle.verdict.specs.declared.Verdict.{Verdict}
 use Rattle.check_input.specs.declared.verdict_line.VerdictLine.{VerdictLine}
 
 -- LF, which ends the line
-abbrev pub lineEnd : List ℕ
-lineEnd = 10 ∷ []
+abbrev pub endOfLine : List ℕ
+endOfLine = 10 ∷ []
 
 -- a space and a whole number, its digits and no zero in front
 abbrev pub spaced : ℕ → List ℕ
@@ -18,8 +18,8 @@ spaced n = 32 ∷ plain n
 
 -- one line: `ok`, or `no` with the line, the place and the refusal's number
 unfoldable pub saidText : VerdictNumbers → List ℕ
-saidText ok = bytes "ok" ++ lineEnd
-saidText (no line place refusal) = bytes "no" ++ (spaced line ++ (spaced place ++ (spaced refusal ++ lineEnd)))
+saidText ok = bytes "ok" ++ endOfLine
+saidText (no line place refusal) = bytes "no" ++ (spaced line ++ (spaced place ++ (spaced refusal ++ endOfLine)))
 
 -- the same of a verdict, by its values in document 01's numbers
 abbrev pub verdictText : Verdict → List ℕ

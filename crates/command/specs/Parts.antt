@@ -69,8 +69,8 @@ readThree d e f (a ∷ b ∷ c ∷ []) =
 readThree d e f (a ∷ b ∷ c ∷ g ∷ more) = triple.Not
 
 -- a quantity as a whole-number argument from low to high
-abbrev pub whole : ℕ → ℕ → Quantity → Argument
-whole low high q = takenOf (wholeRange low high) q
+abbrev pub wholeArgument : ℕ → ℕ → Quantity → Argument
+wholeArgument low high q = takenOf (wholeRange low high) q
 
 -- a set of a setting without channels, once its number is read
 unfoldable pub settingTaken : ℕ → Quantity → Parsed
@@ -79,40 +79,40 @@ settingTaken entry x = with (valueTaken entry x) λ v. taken (Set (set.Value ent
 -- a set of channel i of a setting, once its numbers are read
 unfoldable pub channelTaken : ℕ → ℕ → Quantity → Quantity → Parsed
 channelTaken base channels i x =
-    with (whole 1 channels i) λ n. with (valueTaken base x) λ v. taken (Set (set.Value (base + (n - 1)) v))
+    with (wholeArgument 1 channels i) λ n. with (valueTaken base x) λ v. taken (Set (set.Value (base + (n - 1)) v))
 
 -- a set of the two settings of channel i, once its numbers are read
 unfoldable pub pairTaken : ℕ → ℕ → Quantity → Quantity → Quantity → Parsed
 pairTaken base channels i x y =
-    with (whole 1 channels i) λ n. with (valueTaken base x) λ v. with (valueTaken (base + 1) y) λ w.
+    with (wholeArgument 1 channels i) λ n. with (valueTaken base x) λ v. with (valueTaken (base + 1) y) λ w.
     taken (Set (set.Pair (base + 2 * (n - 1)) v w))
 
 -- a set of an enable, once its number is read
 unfoldable pub enableTaken : Register → Quantity → Parsed
-enableTaken r v = with (whole 0 registerMost v) λ x. taken (Set (set.Enable r x))
+enableTaken r v = with (wholeArgument 0 registerMost v) λ x. taken (Set (set.Enable r x))
 
 -- a set of bit i of an enable, once its numbers are read
 unfoldable pub enableBitTaken : Register → Quantity → Quantity → Parsed
-enableBitTaken r i v = with (whole 0 bitMost i) λ b. with (whole 0 1 v) λ x. taken (Set (set.EnableBit r b x))
+enableBitTaken r i v = with (wholeArgument 0 bitMost i) λ b. with (wholeArgument 0 1 v) λ x. taken (Set (set.EnableBit r b x))
 
 -- a query of channel i of a setting, once its number is read
 unfoldable pub channelAsked : ℕ → ℕ → Quantity → Parsed
-channelAsked base channels i = with (whole 1 channels i) λ n. taken (Query (query.Value (base + (n - 1))))
+channelAsked base channels i = with (wholeArgument 1 channels i) λ n. taken (Query (query.Value (base + (n - 1))))
 
 -- a query of the two settings of channel i, once its number is read
 unfoldable pub pairAsked : ℕ → ℕ → Quantity → Parsed
-pairAsked base channels i = with (whole 1 channels i) λ n. taken (Query (query.Pair (base + 2 * (n - 1))))
+pairAsked base channels i = with (wholeArgument 1 channels i) λ n. taken (Query (query.Pair (base + 2 * (n - 1))))
 
 -- a query of bit i of an enable, once its number is read
 unfoldable pub enableBitAsked : Register → Quantity → Parsed
-enableBitAsked r i = with (whole 0 bitMost i) λ b. taken (Query (query.EnableBit r b))
+enableBitAsked r i = with (wholeArgument 0 bitMost i) λ b. taken (Query (query.EnableBit r b))
 
 -- a query of bit i of an event register or of the status byte, once its number is read
 unfoldable pub statusBitAsked : Register → Quantity → Parsed
-statusBitAsked r i = with (whole 0 bitMost i) λ b. taken (Query (query.StatusBit r b))
+statusBitAsked r i = with (wholeArgument 0 bitMost i) λ b. taken (Query (query.StatusBit r b))
 
 -- a query of k points of trace i from bin j on, once its numbers are read
 unfoldable pub traceAsked : Form → Quantity → Quantity → Quantity → Parsed
 traceAsked form i j k =
-    with (whole 1 traces i) λ t. with (whole 0 capacityMost j) λ b. with (whole capacityLeast capacityMost k) λ n.
+    with (wholeArgument 1 traces i) λ t. with (wholeArgument 0 capacityMost j) λ b. with (wholeArgument capacityLeast capacityMost k) λ n.
     taken (Query (query.Trace form t b n))

@@ -35,7 +35,7 @@ use Rattle.lockin.specs.declared.PollResult.{PollResult}
 use Rattle.lockin.specs.Start.{refusedStart, startCall}
 use Rattle.lockin.specs.Calls.{Call, withQueue, guarded, refusedWhole, lineRan, lineEnd, wholeEnd, wholeLine, lineCall}
 use Rattle.lockin.specs.Calls.{receivedCall, byteReceived, byteCall, eventCall, pollCall}
-use Rattle.demand1.specs.Demand1.{FirstRefused, RunsLine, receivedTo, RunsWaiting, OnlyQueued, Untouched, OnlyMarked}
+use Rattle.demand1.specs.Demand1.{FirstRefusedCommand, RunsLine, receivedTo, RunsWaiting, OnlyQueued, Untouched, OnlyMarked}
 use Rattle.demand1.specs.Demand1.{RefusedCall, emptiedAt, RefusedEvent, OfStart, RefusedStart, RefusedPoll}
 use Rattle.demand1.specs.Demand1.{RefusedChangesNothing}
 use Rattle.demand1.specs.Demand1 as demand
@@ -77,8 +77,8 @@ ran-runs room bytes m q one two =
     }
   where
     from-start : (r : Refusal) (place : ℕ) →
-        ((p : ℕ) × (place ≡ 0 + p) × FirstRefused r p room (textsOf bytes) (startLine (m .state) one two)) →
-        FirstRefused r place room (textsOf bytes) (startLine (m .state) one two)
+        ((p : ℕ) × (place ≡ 0 + p) × FirstRefusedCommand r p room (textsOf bytes) (startLine (m .state) one two)) →
+        FirstRefusedCommand r place room (textsOf bytes) (startLine (m .state) one two)
     from-start r place x = let same : x .0 ≡ place = omega (arith, x .1) in rw same at (x .2)
 
 -- its commands' places are counted from 1

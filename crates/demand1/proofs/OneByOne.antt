@@ -27,7 +27,7 @@ use Rattle.line.specs.Line.{Line, waits, afterOf, afterCommand, runAll}
 use Rattle.lockin.specs.Calls.{reportedLength}
 use Rattle.demand1.specs.Demand1.{OfCommand, malformed, outOfRange, notAllowed, noRoom, BitSet, Marked}
 use Rattle.demand1.specs.Demand1.{RefusedCommand, effectIn, RefusedStep, AcceptedStep, Continues, OneByOne}
-use Rattle.demand1.specs.Demand1.{Commands, FirstRefused}
+use Rattle.demand1.specs.Demand1.{Commands, FirstRefusedCommand}
 use Rattle.demand1.specs.Demand1 as demand
 use Rattle.invariant.proofs.Storable.{parsed-storable}
 use Rattle.invariant.proofs.Command.{command-by}
@@ -247,7 +247,7 @@ pub record Answering (room : ℕ) (texts : List (List ℕ)) (l end : Line) : Typ
       OneByOne (AcceptedStep room) room texts l end
   pub placed : l .report .answer ≡ answer.Passed → (r : Refusal) (place : ℕ) →
       end .report .answer ≡ answer.Refused r place →
-      (p : ℕ) × (place ≡ l .report .count + p) × FirstRefused r p room texts l
+      (p : ℕ) × (place ≡ l .report .count + p) × FirstRefusedCommand r p room texts l
 
 answering-ends : (room : ℕ) (l : Line) → Answering room [] l l
 answering-ends room l =
@@ -270,8 +270,8 @@ module _ (room : ℕ) (text : List ℕ) (more : List (List ℕ)) (l end : Line) 
     where
       later : (r : Refusal) (place : ℕ) →
           ((p : ℕ) × (place ≡ afterCommand room text l .report .count + p)
-          × FirstRefused r p room more (afterCommand room text l)) →
-          (p : ℕ) × (place ≡ l .report .count + p) × FirstRefused r p room (text ∷ more) l
+          × FirstRefusedCommand r p room more (afterCommand room text l)) →
+          (p : ℕ) × (place ≡ l .report .count + p) × FirstRefusedCommand r p room (text ∷ more) l
       later r place x =
           let y = x .2 in (
             x .0 + 1,

@@ -135,7 +135,7 @@ pub data Commands (room : ℕ) (start : Line) : List (List ℕ) → Line → ℕ
       Commands room start (before ++ (text ∷ dropped)) (afterCommand room text here) 0
 
 -- the first refused command of a line has this place, counted from 1: each command before it is accepted
-pub record FirstRefused (refusal : Refusal) (place room : ℕ) (texts : List (List ℕ)) (start : Line) : Type 0 where
+pub record FirstRefusedCommand (refusal : Refusal) (place room : ℕ) (texts : List (List ℕ)) (start : Line) : Type 0 where
   pub before : List (List ℕ)
   pub text : List ℕ
   pub after : List (List ℕ)
@@ -162,7 +162,7 @@ pub record RunsLine (room : ℕ) (bytes : List ℕ) (m : Module) (q : Queue) (on
   pub passed : c .report .answer ≡ answer.Passed →
       OneByOne (AcceptedStep room) room (textsOf bytes) (startLine (m .state) one two) end
   pub placed : (refusal : Refusal) (place : ℕ) → c .report .answer ≡ answer.Refused refusal place →
-      FirstRefused refusal place room (textsOf bytes) (startLine (m .state) one two)
+      FirstRefusedCommand refusal place room (textsOf bytes) (startLine (m .state) one two)
 
 -- what a byte does to the module's queue
 abbrev pub receivedTo : Module → ℕ → Bool → Received

@@ -22,7 +22,7 @@ use Rattle.line.specs.Line.{Tally, Line, waits, startLine, afterOf, afterComman
 use Rattle.module.specs.Module.{guardOf}
 use Rattle.module.specs.declared.Module.{Module}
 use Rattle.lockin.specs.Calls.{withQueue, lineRan, lineCall}
-use Rattle.demand2.specs.Lines.{continued, laterAnswer, later, SeveralCommands}
+use Rattle.demand2.specs.Lines.{continued, laterAnswer, placedLater, SeveralCommands}
 use Rattle.invariant.proofs.OneCommand.{open-call}
 use Rattle.invariant.proofs.StaysValid.{stays-valid}
 
@@ -210,7 +210,7 @@ module _ (room : ℕ) (x y : List ℕ) (short : length (x ++ semicolon ∷ y) �
         let c = lineCall room x m one two in
         c .report .answer ≡ Passed → c .out ≡ [] →
         lineCall room (x ++ semicolon ∷ y) m one two
-        ≡ later (length (textsOf x)) (lineCall room y (c .after) (c .one) (c .two))
+        ≡ placedLater (length (textsOf x)) (lineCall room y (c .after) (c .one) (c .two))
     unfolding lineOf
     calls =
         rw (open-call room x m one two passes short-first) λ a o.
@@ -225,7 +225,7 @@ module _ (room : ℕ) (x y : List ℕ) (short : length (x ++ semicolon ∷ y) �
         (begun room l n o a (w .count) (w .passes))
         ∙ ap (λ z. withQueue (m .queue) (lineRan z))
         (run-further room n (textsOf y) (startLine (l .after) (l .one) (l .two)))
-        ∙ ap (later n)
+        ∙ ap (placedLater n)
         (sym (open-call room y (record { queue = m .queue; state = l .after }) (l .one) (l .two) guard short-second))
 
 pub several-commands : SeveralCommands

@@ -27,8 +27,8 @@ laterAnswer n Passed = Passed
 laterAnswer n (Refused r place) = Refused r (place + n)
 
 -- a call whose answer's place is n further on
-abbrev pub later : ℕ → Call → Call
-later n c =
+abbrev pub placedLater : ℕ → Call → Call
+placedLater n c =
     record {
       after = c .after;
       one = c .one;
@@ -47,7 +47,7 @@ pub record InTurn (room : ℕ) (x y : List ℕ) (m : Module) (one two : List ℕ
       let c = lineCall room x m one two in
       c .report .answer ≡ Passed → c .out ≡ [] →
       lineCall room (x ++ semicolon ∷ y) m one two
-      ≡ later (length (textsOf x)) (lineCall room y (c .after) (c .one) (c .two))
+      ≡ placedLater (length (textsOf x)) (lineCall room y (c .after) (c .one) (c .two))
 
 -- this holds of all lines x;y that are not too long
 abbrev pub SeveralCommands : Type 0

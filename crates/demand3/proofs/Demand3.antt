@@ -25,7 +25,7 @@ use Rattle.verdict.specs.declared.Verdict.the-variants.{Fine, No}
 use Rattle.invariant.proofs.StaysValid.{stays-valid}
 use Rattle.demand3.specs.Course.{World, StartAnswers, Startable, freshWorld, before, after, LineInputs, Course}
 use Rattle.demand3.specs.Course.{answerOf, answers}
-use Rattle.demand3.specs.Demand3.{lineAt, Short, none, first, leadOf, isRstCommand, begins, AllPass, FirstRefused}
+use Rattle.demand3.specs.Demand3.{lineNumbered, Short, none, first, leadOf, isRstCommand, beginsWithReset, AllPass, FirstRefused}
 use Rattle.demand3.specs.Demand3.{NotBegun, other, nothing, LongAt, Demand3}
 use Rattle.demand3.proofs.SameButTimeConstant.{alike-self}
 use Rattle.demand3.proofs.FirstRefusal.{never, not-passed}
@@ -163,11 +163,11 @@ module _ (model : Model) (lines : List (List ℕ)) where
       (line-open (before (g .0) w) (events-open (g .0 .events) w o) (g .0 .room) l) i e
 
   short-zero : Short lines 0
-  unfolding lineAt
+  unfolding lineNumbered
   short-zero = refl
 
   short-suc : (i : ℕ) → lineTooLong (getD lines i []) ≡ false → Short lines (suc i)
-  unfolding lineAt
+  unfolding lineNumbered
   short-suc i e = e
 
   short-every : ((i : ℕ) → lineTooLong (getD lines i []) ≡ false) → (n : ℕ) → Short lines n
@@ -234,8 +234,8 @@ module _ (model : Model) (lines : List (List ℕ)) where
         passed = course-fine e;
       }
     where
-      by : Begins 1 (finds model lines) (leadOf lines) → begins (leadOf lines) ≡ true
-      by (withReset n q c u w x) = unfold begins in rw u w
+      by : Begins 1 (finds model lines) (leadOf lines) → beginsWithReset (leadOf lines) ≡ true
+      by (withReset n q c u w x) = unfold beginsWithReset in rw u w
       by (withOther i p n c f z u w) = never (cc)
       by (withNothing f u) = never (cc)
       by (withLong i f u) = never (cc)
@@ -264,7 +264,7 @@ module _ (model : Model) (lines : List (List ℕ)) where
 
   -- 8
   long-at : (i p : ℕ) → finds model lines ≡ stop i p LongScriptLine → LongAt model lines (suc i) p
-  unfolding lineAt
+  unfolding lineNumbered
   long-at i p e =
       stop-split model lines startExtremes i p LongScriptLine (LongAt model lines (suc i) p) e
       (λ t z q.
@@ -292,11 +292,11 @@ module _ (model : Model) (lines : List (List ℕ)) where
   -- ---- and back
 
   long-suc : (i : ℕ) → lineTooLong (getD lines i []) ≡ true → Short lines (suc i) → ⊥
-  unfolding lineAt
+  unfolding lineNumbered
   long-suc i e f = false≢true (sym f ∙ e)
 
-  begins-is : (n p : ℕ) (c : Parsed) → leadOf lines ≡ first n p c → begins (leadOf lines) ≡ isRstCommand c
-  unfolding begins
+  begins-is : (n p : ℕ) (c : Parsed) → leadOf lines ≡ first n p c → beginsWithReset (leadOf lines) ≡ isRstCommand c
+  unfolding beginsWithReset
   begins-is n p c u = rw u refl
 
   refused-apart : (k : Course model lines) (n p : ℕ) (r : Refusal) → answers k n ≡ Refused r p → answers k n ≡ Passed
@@ -325,12 +325,12 @@ module _ (model : Model) (lines : List (List ℕ)) where
           found-split (finds model lines) (finds model lines ≡ fine) (λ e. e) (λ e. absurd (rw e at x))
           (λ i p r e. absurd (stop-refused i p r e (rw e at x) (λ k. a .passed k (suc i))))
       by (withOther i p n c e z u w) = absurd (false≢true (sym w ∙ (sym (begins-is n p c u) ∙ a .begun)))
-      by (withNothing e u) = absurd (false≢true (unfold begins in rw u at (a .begun)))
+      by (withNothing e u) = absurd (false≢true (unfold beginsWithReset in rw u at (a .begun)))
       by (withLong i e u) =
           absurd (stop-refused i 0 LongScriptLine e (λ z. seven-eight (sym z)) (λ k. a .passed k (suc i)))
 
     long-back : (j p : ℕ) → LongAt model lines (suc j) p → finds model lines ≡ stop j 0 LongScriptLine
-    unfolding lineAt
+    unfolding lineNumbered
     long-back j p a =
         found-split (finds model lines) (finds model lines ≡ stop j 0 LongScriptLine)
         (λ e. absurd (false≢true (sym (short-passes model lines startExtremes j (rw e tt)) ∙ a .long)))

@@ -27,13 +27,13 @@ use Rattle.demand3.specs.Course.{StartAnswers, Startable, freshWorld, Co
 -- ---- the script itself
 
 -- line n, counted from 1
-unfoldable pub lineAt : List (List ℕ) → ℕ → List ℕ
-lineAt lines zero = []
-lineAt lines (suc i) = getD lines i []
+unfoldable pub lineNumbered : List (List ℕ) → ℕ → List ℕ
+lineNumbered lines zero = []
+lineNumbered lines (suc i) = getD lines i []
 
 -- line n is not over 256 bytes
 abbrev pub Short : List (List ℕ) → ℕ → Type 0
-Short lines n = lineTooLong (lineAt lines n) ≡ false
+Short lines n = lineTooLong (lineNumbered lines n) ≡ false
 
 -- the first command of a script that is not empty, if there is one: its line, its place and what it is read as
 pub data Lead : Type 0 where
@@ -72,9 +72,9 @@ isRstCommand (Refused r) = false
 isRstCommand (Taken c) = resets (c .kind)
 
 -- a script begins with *RST: the first command that is not empty is it
-unfoldable pub begins : Lead → Bool
-begins none = false
-begins (first line place c) = isRstCommand c
+unfoldable pub beginsWithReset : Lead → Bool
+beginsWithReset none = false
+beginsWithReset (first line place c) = isRstCommand c
 
 -- ---- the verdicts
 
@@ -86,7 +86,7 @@ PassedBefore model lines n = (k : Course model lines) (m : ℕ) → m < n → an
 -- *RST and no line is over 256 bytes.
 pub record AllPass (model : Model) (lines : List (List ℕ)) : Type 0 where
   pub startable : Startable model
-  pub begun : begins (leadOf lines) ≡ true
+  pub begun : beginsWithReset (leadOf lines) ≡ true
   pub short : (n : ℕ) → Short lines n
   pub passed : (k : Course model lines) (n : ℕ) → answers k n ≡ answer.Passed
 
@@ -110,7 +110,7 @@ pub data NotBegun (lines : List (List ℕ)) : ℕ → ℕ → Type 0 where
 -- whatever the course
 pub record LongAt (model : Model) (lines : List (List ℕ)) (n place : ℕ) : Type 0 where
   pub nowhere : place ≡ 0
-  pub long : lineTooLong (lineAt lines n) ≡ true
+  pub long : lineTooLong (lineNumbered lines n) ≡ true
   pub begun : (m q : ℕ) (c : Parsed) → leadOf lines ≡ first m q c → m < n → isRstCommand c ≡ true
   pub before : PassedBefore model lines n
 

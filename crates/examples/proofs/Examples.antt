@@ -39,7 +39,7 @@ use Rattle.lockin.specs.Calls.{guarded, lineEnd, wholeEnd, wholeLine, lineCall,
 use Rattle.extreme_courses.specs.Extremes.{resets, measuredHigh, triggeredHigh, beforeLine, kindRefusal, textRefusal, kindAfter, textAfter}
 use Rattle.script.specs.Check.{answerAt, textsAnswer, textsAfter, lineAnswer, foundBy, finding, withoutLast, checkOf}
 use Rattle.verdict.specs.Numbers.{verdictNumbers}
-use Rattle.examples.specs.Examples.{lineSeen, low16, wordOf, floatSeen, seenOf, table, Examples}
+use Rattle.examples.specs.Examples.{lineSeen, low16, pointWord, floatSeen, seenOf, exampleTable, Examples}
 
 -- every definition that an example runs through is unfolded, from the text of a number up to the calls
 pub examples : Examples
@@ -62,5 +62,5 @@ unfolding span onHead parts allDigits begins unsigned isMantissa isNumber decima
     numbered numbersOf validModule guardOf guarded lineEnd wholeEnd wholeLine lineCall eventCall
     resets measuredHigh triggeredHigh beforeLine kindRefusal textRefusal kindAfter textAfter answerAt textsAnswer textsAfter
     lineAnswer foundBy finding withoutLast checkOf
-    lineSeen low16 wordOf floatSeen verdictNumbers seenOf table
+    lineSeen low16 pointWord floatSeen verdictNumbers seenOf exampleTable
 examples = (refl, (refl, (refl, (refl, (refl, (refl, (refl, (refl, (refl, (refl, (refl, (refl, (refl, (refl, (refl, (refl, tt))))))))))))))))

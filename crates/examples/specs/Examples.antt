@@ -22,18 +22,18 @@ use Rattle.verdict.specs.Numbers.{VerdictNumbers, ok, no, verdictNumbers}
 -- ---- the examples
 
 -- m, a whole number with its sign
-pub data Whole : Type 0 where
+pub data SignedWhole : Type 0 where
   -- not below zero
-  plus : ℕ → Whole
+  plus : ℕ → SignedWhole
   -- below zero
-  minus : ℕ → Whole
+  minus : ℕ → SignedWhole
 
 -- an example
 pub data Example : Type 0 where
   -- a line handed over whole
   line : (text : String) → Example
   -- the float that TRCB sends for a point
-  trcb : (m : Whole) (e : ℕ) → Example
+  trcb : (m : SignedWhole) (e : ℕ) → Example
   -- a script of two lines at a capacity
   script : (capacity : ℕ) (first second : String) → Example
 
@@ -65,13 +65,13 @@ lineSeen m one two text =
     answer (numbersOf (c .report)) (c .after .state .settings) (c .out)
 
 -- m as 16 bits, in two's complement
-unfoldable pub low16 : Whole → ℕ
+unfoldable pub low16 : SignedWhole → ℕ
 low16 (plus m) = m
 low16 (minus m) = 0x1_0000 - m
 
 -- the point (m, e) as a word: e is its third byte
-unfoldable pub wordOf : Whole → ℕ → ℕ
-wordOf m e = e * 0x1_0000 + low16 m
+unfoldable pub pointWord : SignedWhole → ℕ → ℕ
+pointWord m e = e * 0x1_0000 + low16 m
 
 -- the point is the first of a new latest pair, is stored by TRIG at SRAT 14, and is then bin 0 of trace 1
 unfoldable pub floatSeen : ℕ → Seen
@@ -82,7 +82,7 @@ floatSeen word =
 -- what is seen of an example; an LF ends the first line of a script, and nothing the second
 unfoldable pub seenOf : Example → Seen
 seenOf (line text) = lineSeen fresh zeros zeros text
-seenOf (trcb m e) = floatSeen (wordOf m e)
+seenOf (trcb m e) = floatSeen (pointWord m e)
 seenOf (script capacity first second) =
     verdict (verdictNumbers (checkOf (modelOf capacity) (bytes first ++ (lf ∷ bytes second))))
 
@@ -119,8 +119,8 @@ abbrev pub row : Example → Seen → Row
 row e s = record { example = e; shows = s }
 
 -- the examples in document 01's order; where one sets a value, it is queried in the same line
-unfoldable pub table : List Row
-table =
+unfoldable pub exampleTable : List Row
+exampleTable =
     -- minus half a turn becomes half a turn
     row (line "PHAS -180;PHAS?") (passes (keeping phas 18000 startSettings) (text "180.00"))
     -- two turns are taken off; the range is tested before rounding
@@ -148,10 +148,10 @@ table =
     ∷ []
 
 -- every example of these rows shows what its row says
-abbrev pub Every : List Row → Type 0
-Every [] = Unit {0}
-Every (r ∷ rs) = (seenOf (r .example) ≡ r .shows) × Every rs
+abbrev pub AllRows : List Row → Type 0
+AllRows [] = Unit {0}
+AllRows (r ∷ rs) = (seenOf (r .example) ≡ r .shows) × AllRows rs
 
 -- every example of the table does, in one statement
 abbrev pub Examples : Type 0
-Examples = Every table
+Examples = AllRows exampleTable

@@ -9,7 +9,7 @@ use Rattle.state.specs.State.{withErrorBit}
 use Rattle.state.specs.declared.State.{State}
 use Rattle.state.proofs.Sound.{start-valid}
 use Rattle.effect.proofs.After.{after-installation}
-use Rattle.line.specs.Perform.{Effect, sampledBy, doneBy, commandOf}
+use Rattle.line.specs.Perform.{Effect, storageStepBy, doneBy, commandOf}
 use Rattle.line.specs.Line.{Line, waits, afterOf, afterCommand, runAll, startLine, lineOf}
 use Rattle.line_text.specs.Texts.{textsOf}
 use Rattle.event.proofs.Preserved.{event-stays, event-installation, event-first, event-second, stored-length}
@@ -32,8 +32,8 @@ command-stays room waiting text s one two =
     record {
       valid = λ h. after-stays s h kind k p;
       installation = after-installation kind s;
-      first-length = stored-length (sampledBy kind s) s (s .latest .one) one;
-      second-length = stored-length (sampledBy kind s) s (s .latest .two) two;
+      first-length = stored-length (storageStepBy kind s) s (s .latest .one) one;
+      second-length = stored-length (storageStepBy kind s) s (s .latest .two) two;
     })
     (parsedOf text) (parsed-storable text)
 

@@ -18,7 +18,7 @@ use Rattle.reply_buffer.specs.After.{Meets}
 use Rattle.reply_buffer.proofs.Over.{sentBytes-length, sent-written}
 use Rattle.reply_buffer.proofs.After.{silent-meets}
 use Rattle.reply.specs.Reply.{replyOf}
-use Rattle.line.specs.Perform.{sampledBy, doneBy, performed}
+use Rattle.line.specs.Perform.{storageStepBy, doneBy, performed}
 use Rattle.line.specs.Parts.{commandResult, refusedWith}
 
 -- what is written fits the room
@@ -48,7 +48,7 @@ module _ (waiting : Bool) (kind : Kind) (s : State) (one two : List ℕ) where
       pub done : r .fits ≡ true →
           Meets commandResult (performed (length old) waiting kind s one two)
           (record { state = stateAfter kind s; written = r .written; outcome = Done })
-          (storedIn (sampledBy kind s) s (s .latest .one) one) (storedIn (sampledBy kind s) s (s .latest .two) two)
+          (storedIn (storageStepBy kind s) s (s .latest .one) one) (storedIn (storageStepBy kind s) s (s .latest .two) two)
           new old
       unfolding performed doneBy sentBytes
       done f =

@@ -14,7 +14,7 @@ use Rattle.line.specs.declared.CommandResult.{CommandResult}
 use Rattle.line.specs.declared.Progress.{Progress}
 use Rattle.line.specs.Perform.{Effect, commandOf}
 use Rattle.line.specs.Line.{afterOf, afterCommand}
-use Rattle.line.specs.Parts.{commandResult, progressAfter, progressOf, lineAt}
+use Rattle.line.specs.Parts.{commandResult, progressAfter, progressOf, lineReached}
 
 -- the part of a room from a place on, and the room once that part came back as new
 abbrev pub part : List ℕ → ℕ → List ℕ
@@ -52,7 +52,7 @@ pub step-holds : (p q : Progress) (text one two one′ two′ reply new : List �
     Meets commandResult (commandOf (length (part reply (p .at))) (ltb 0 (p .at)) (parsedOf text) (p .state) one two)
     d one′ two′ new (part reply (p .at)) →
     q ≡ progressAfter p d →
-    Meets progressOf (afterCommand (length reply) text (lineAt p one two reply)) q one′ two′ (mended reply (p .at) new) reply
+    Meets progressOf (afterCommand (length reply) text (lineReached p one two reply)) q one′ two′ (mended reply (p .at) new) reply
 unfolding afterCommand afterOf
 step-holds p q text one two one′ two′ reply new d h did e =
     let command : ℕ → ℕ → Effect = λ room n. commandOf room (ltb 0 n) (parsedOf text) (p .state) one two in

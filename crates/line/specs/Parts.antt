@@ -52,8 +52,8 @@ progressOf l =
     }
 
 -- the line that the code is at
-abbrev pub lineAt : Progress → List ℕ → List ℕ → List ℕ → Line
-lineAt p one two reply =
+abbrev pub lineReached : Progress → List ℕ → List ℕ → List ℕ → Line
+lineReached p one two reply =
     record {
       after = p .state;
       one = one;

@@ -32,16 +32,16 @@ abbrev pub nothing : State → List ℕ → List ℕ → Effect
 nothing s one two = silent outcome.Done s one two
 
 -- what a command does to storage
-abbrev pub sampledBy : Kind → State → StorageStep
-sampledBy kind s = storageAfter kind (s .settings) (s .acquisition) (s .installation .capacity)
+abbrev pub storageStepBy : Kind → State → StorageStep
+storageStepBy kind s = storageAfter kind (s .settings) (s .acquisition) (s .installation .capacity)
 
 -- a command that is not refused
 unfoldable pub doneBy : Kind → List ℕ → State → List ℕ → List ℕ → Effect
 doneBy kind reply s one two =
     record {
       after = stateAfter kind s;
-      one = storedIn (sampledBy kind s) s (s .latest .one) one;
-      two = storedIn (sampledBy kind s) s (s .latest .two) two;
+      one = storedIn (storageStepBy kind s) s (s .latest .one) one;
+      two = storedIn (storageStepBy kind s) s (s .latest .two) two;
       out = reply;
       report = outcome.Done;
     }

@@ -6,7 +6,7 @@ ghost use Rattle.split.specs.Divide.{parts};
 ghost use Rattle.command.specs.Parsed.{parsedOf};
 ghost use Rattle.line.specs.Perform.{performed, commandOf};
 ghost use Rattle.line.specs.Line.{afterCommand, runAll, startLine};
-ghost use Rattle.line.specs.Parts.{commandResult, refusedWith, textsRun, progressAfter, progressOf, lineAt};
+ghost use Rattle.line.specs.Parts.{commandResult, refusedWith, textsRun, progressAfter, progressOf, lineReached};
 ghost use Rattle.line_text.specs.Texts.{semicolon};
 ghost use Rattle.reply_buffer.specs.After.{Meets};
 use command::Command;

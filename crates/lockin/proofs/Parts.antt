@@ -16,7 +16,7 @@ use Rattle.outcome.specs.Code.{numberOf}
 use Rattle.outcome.specs.Answer.{numbersOf}
 use Rattle.state.specs.declared.State.{State}
 use Rattle.queue.specs.Queue.{lineLimit}
-use Rattle.queue.specs.Parts.{queueOf, storedIn}
+use Rattle.queue.specs.Parts.{queueOf, bytesWith}
 use Rattle.queue.specs.declared.Queue.{Queue}
 use Rattle.queue.specs.declared.QueueStep.{QueueStep}
 use Rattle.queue.specs.declared.LineEnd.{LineEnd}
@@ -73,7 +73,7 @@ within l n h = by (leb n 256) refl where
       rw all (take-all 256 l h ∙ sym (take-all n l (omega arith)))
 
 -- a stored byte leaves as many bytes as there were
-pub stored-length : (stores : Bool) (at b : ℕ) (bytes : List ℕ) → length (storedIn stores at b bytes) ≡ length bytes
+pub stored-length : (stores : Bool) (at b : ℕ) (bytes : List ℕ) → length (bytesWith stores at b bytes) ≡ length bytes
 stored-length stores at b bytes = by (stores && ltb at lineLimit) where
   by : (t : Bool) → length (cond t (set bytes at b) bytes) ≡ length bytes
   by true = length-set bytes at b
@@ -112,7 +112,7 @@ line-answers room text m one two {o = o} guard whole end h =
 module _ (room b : ℕ) (mark : Bool) (m : Module) (one two : List ℕ) (step : QueueStep) where
   -- the queue's bytes and the queue after the step
   abbrev stored : List ℕ
-  stored = storedIn (step .stores) (m .queue .len) b (m .queue .bytes)
+  stored = bytesWith (step .stores) (m .queue .len) b (m .queue .bytes)
 
   abbrev queued : Queue
   queued = queueOf stored (step .len) (step .discarding)
@@ -131,7 +131,7 @@ pub byte-answers : (room b : ℕ) (mark : Bool) (m : Module) (one two : List ℕ
     {bytes : List ℕ} {end : ℕ} {r : StateResult} {one′ two′ new old : List ℕ} → length (m .queue .bytes) ≡ 256 →
     o ≡ guardOf m (length one) (length two) →
     GuardedStep o (m .queue .len) (m .queue .discarding) (m .state .installation .port) b mark step →
-    bytes ≡ storedIn (step .stores) (m .queue .len) b (m .queue .bytes) → end ≡ min (step .line) 256 →
+    bytes ≡ bytesWith (step .stores) (m .queue .len) b (m .queue .bytes) → end ≡ min (step .line) 256 →
     Meets resultOf
     (guarded refusedWhole o (lineEnd (step .ending) room (take end bytes) (m .state) one two) (m .state) one two)
     r one′ two′ new old →

@@ -3,7 +3,7 @@ use Prim.Native.Nat.{ℕ, _/_, _%_, _^_, _<_}
 use native.Mathlib.Omega.{arith}
 use mathlib.Core.List.{[], _∷_}
 use mathlib.Core.Path.{_≡_}
-use Rattle.point.specs.Bytes.{lowFirst, littleEndian, numberOf}
+use Rattle.point.specs.Bytes.{lowFirst, littleEndian, bytesNumber}
 
 pub four-bytes : (x : ℕ) → x < 2 ^ 32 → littleEndian x ≡ x % 256 ∷ x / 256 % 256 ∷ x / 65536 % 256 ∷ x / 16777216 ∷ []
 unfolding lowFirst littleEndian
@@ -12,6 +12,6 @@ four-bytes x h =
     let fourth : x / 256 / 256 / 256 % 256 ≡ x / 16777216 = omega arith in
     rw (third, fourth)
 
-pub read-back : (x : ℕ) → x < 2 ^ 32 → numberOf (littleEndian x) ≡ x
-unfolding lowFirst littleEndian numberOf
+pub read-back : (x : ℕ) → x < 2 ^ 32 → bytesNumber (littleEndian x) ≡ x
+unfolding lowFirst littleEndian bytesNumber
 read-back x h = omega arith

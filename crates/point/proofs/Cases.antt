@@ -6,7 +6,7 @@ use mathlib.Core.Path.{_≡_}
 use lib.Dec.{leb, eqb}
 use borrow.Author.Tests.{leb-true, leb-false, eq-eqb, ne-eqb}
 use Rattle.laws.proofs.Tests.{split, cond-by}
-use Rattle.point.specs.Point.{isNegative, magnitudeOf, exponentOf, topByte, isLegal, singleOf, floatOf}
+use Rattle.point.specs.Point.{isNegative, magnitudeOf, exponentByte, topByte, isLegal, singleOf, floatOf}
 
 pub magnitude-le : (w : ℕ) → magnitudeOf w ≤ 32768
 unfolding magnitudeOf
@@ -20,9 +20,9 @@ pub zero-positive : (w : ℕ) → magnitudeOf w ≡ 0 → isNegative w ≡ false
 unfolding magnitudeOf
 zero-positive w z = split (isNegative w) (λ e. absurd (let some = rw e at z in omega arith)) (λ e. e)
 
-pub exponent-le : (w : ℕ) → isLegal w ≡ true → exponentOf w ≤ 236
+pub exponent-le : (w : ℕ) → isLegal w ≡ true → exponentByte w ≤ 236
 unfolding isLegal
-exponent-le w h = leb-true (exponentOf w) 236 (and-eq-true-iff (eqb (topByte w) 0) (leb (exponentOf w) 236) .0 h .1)
+exponent-le w h = leb-true (exponentByte w) 236 (and-eq-true-iff (eqb (topByte w) 0) (leb (exponentByte w) 236) .0 h .1)
 
 module _ (w : ℕ) where
   pub no-point : isLegal w ≡ false → floatOf w ≡ 0x7FC00000
@@ -33,7 +33,7 @@ module _ (w : ℕ) where
   unfolding floatOf
   no-magnitude l z = rw (l, eq-eqb (magnitudeOf w) 0 z)
 
-  pub some-magnitude : {a e : ℕ} {s : Bool} → isLegal w ≡ true → a ≡ magnitudeOf w → (a ≡ 0 → ⊥) → e ≡ exponentOf w → s ≡ isNegative w
+  pub some-magnitude : {a e : ℕ} {s : Bool} → isLegal w ≡ true → a ≡ magnitudeOf w → (a ≡ 0 → ⊥) → e ≡ exponentByte w → s ≡ isNegative w
       → floatOf w ≡ singleOf s a e
   unfolding floatOf
   some-magnitude {a} l m z x n = rw (l, ← m, ← x, ← n, ne-eqb a 0 z)

@@ -11,8 +11,8 @@ use lib.Ieee.Exact.{HasValue, odd-sign}
 use borrow.Author.Tests.{ne-eqb, eqb-true, eqb-false}
 use Rattle.laws.proofs.Tests.{split}
 use Rattle.point.specs.Single.{signField, exponentField, fractionField}
-use Rattle.point.specs.Point.{isNegative, magnitudeOf, exponentOf, isLegal, highest, floatOf}
-use Rattle.point.specs.Exact.{SameValue, ReadAs, Exact}
+use Rattle.point.specs.Point.{isNegative, magnitudeOf, exponentByte, isLegal, highest, floatOf}
+use Rattle.point.specs.Exact.{SameValue, ReadAs, ExactFloat}
 use Rattle.point.proofs.Digits.{placed, single-fits, sign-of, exponent-of, fraction-of, scaled}
 use Rattle.point.proofs.Cases.{magnitude-le, exponent-le, zero-positive, no-point, no-magnitude, some-magnitude}
 use Rattle.point.proofs.Bytes.{read-back}
@@ -23,7 +23,7 @@ module _ (w : ℕ) (l : isLegal w ≡ true) (z : magnitudeOf w ≡ 0 → ⊥) wh
   same-value : SameValue w (floatOf w)
   same-value =
       let a = magnitudeOf w in
-      let e = exponentOf w in
+      let e = exponentByte w in
       let s = isNegative w in
       let p : 0 < a = omega arith in
       let h = magnitude-le w in
@@ -41,7 +41,7 @@ module _ (w : ℕ) (l : isLegal w ≡ true) (z : magnitudeOf w ≡ 0 → ⊥) wh
   same-lt : floatOf w < 2 ^ 32
   same-lt =
       rw (some-magnitude w l refl z refl refl)
-      (single-fits (magnitudeOf w) (exponentOf w) (omega arith) (magnitude-le w) (exponent-le w l) (isNegative w))
+      (single-fits (magnitudeOf w) (exponentByte w) (omega arith) (magnitude-le w) (exponent-le w l) (isNegative w))
 
 -- ---- a pattern as the toolchain reads it
 
@@ -75,17 +75,17 @@ smaller q k a e h =
 same-read : (w x : ℕ) → SameValue w x → ReadAs w x
 same-read w x v = by (exponentField x) refl (v .least) (v .most) (v .value)
   where
-    by : (k : ℕ) → exponentField x ≡ k → 1 ≤ k → k ≤ 254 → (2 ^ 23 + fractionField x) * 2 ^ k ≡ magnitudeOf w * 2 ^ (exponentOf w + 26) → ReadAs w x
+    by : (k : ℕ) → exponentField x ≡ k → 1 ≤ k → k ≤ 254 → (2 ^ 23 + fractionField x) * 2 ^ k ≡ magnitudeOf w * 2 ^ (exponentByte w + 26) → ReadAs w x
     by zero e least most value = absurd (omega arith)
     by (suc k) e least most value =
         let q = 2 ^ 23 + fractionField x in
-        rescale (ofBits binary32 x) (isNegative w) (q * 2 ^ k) (2 ^ 149) (magnitudeOf w * 2 ^ exponentOf w) (2 ^ 124) (pow-pos 149)
-        (smaller q k (magnitudeOf w) (exponentOf w) value)
+        rescale (ofBits binary32 x) (isNegative w) (q * 2 ^ k) (2 ^ 149) (magnitudeOf w * 2 ^ exponentByte w) (2 ^ 124) (pow-pos 149)
+        (smaller q k (magnitudeOf w) (exponentByte w) value)
         (rw (normal-read x k e most, ← v .sign) (odd-sign 24 (signField x) q k 149))
 
 zero-read : (w : ℕ) → isLegal w ≡ true → magnitudeOf w ≡ 0 → ReadAs w (floatOf w)
 unfolding ofBits ofFields odd
-zero-read w l z = rw (no-magnitude w l z, zero-positive w z, z) (refl, sym (mul-one (0 * 2 ^ exponentOf w) ∙ zero-mul (2 ^ exponentOf w)))
+zero-read w l z = rw (no-magnitude w l z, zero-positive w z, z) (refl, sym (mul-one (0 * 2 ^ exponentByte w) ∙ zero-mul (2 ^ exponentByte w)))
 
 -- ---- the theorem
 
@@ -106,7 +106,7 @@ module _ (w : ℕ) where
       (λ z. same-lt w l (eqb-false (magnitudeOf w) 0 z)))
       (λ l. rw (no-point w l) (lit< tt))
 
-pub exact : (w : ℕ) → Exact w
+pub exact : (w : ℕ) → ExactFloat w
 exact w =
     record {
       same = same-value w;

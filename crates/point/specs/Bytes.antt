@@ -12,6 +12,6 @@ unfoldable pub littleEndian : ℕ → List ℕ
 littleEndian x = lowFirst 4 x
 
 -- the number that bytes make, the lowest of them first
-unfoldable pub numberOf : List ℕ → ℕ
-numberOf [] = 0
-numberOf (b ∷ bs) = b + 0x100 * numberOf bs
+unfoldable pub bytesNumber : List ℕ → ℕ
+bytesNumber [] = 0
+bytesNumber (b ∷ bs) = b + 0x100 * bytesNumber bs

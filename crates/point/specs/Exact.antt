@@ -6,8 +6,8 @@ use mathlib.Core.Path.{_≡_}
 use lib.Ieee.{nan, binary32, ofBits}
 use lib.Ieee.Exact.{HasValue}
 use Rattle.point.specs.Single.{signField, exponentField, fractionField}
-use Rattle.point.specs.Point.{isNegative, magnitudeOf, exponentOf, isLegal, noPoint, floatOf}
-use Rattle.point.specs.Bytes.{littleEndian, numberOf}
+use Rattle.point.specs.Point.{isNegative, magnitudeOf, exponentByte, isLegal, noPoint, floatOf}
+use Rattle.point.specs.Bytes.{littleEndian, bytesNumber}
 
 -- The single x is a normal number (E from 1 to 254) with the sign of m, and its value, (2^23 + F) * 2^(E - 150), is the
 -- point's, m * 2^(e - 124). Each side of `value` is 2^150 times that.
@@ -15,19 +15,19 @@ pub record SameValue (w x : ℕ) : Type 0 where
   pub sign : signField x ≡ isNegative w
   pub least : 1 ≤ exponentField x
   pub most : exponentField x ≤ 254
-  pub value : (2 ^ 23 + fractionField x) * 2 ^ exponentField x ≡ magnitudeOf w * 2 ^ (exponentOf w + 26)
+  pub value : (2 ^ 23 + fractionField x) * 2 ^ exponentField x ≡ magnitudeOf w * 2 ^ (exponentByte w + 26)
 
 -- The same in the toolchain's own account of IEEE singles: x read as one is finite, has the sign of m and the magnitude
 -- |m| * 2^e / 2^124.
 abbrev pub ReadAs : ℕ → ℕ → Type 0
-ReadAs w x = HasValue (ofBits binary32 x) (isNegative w) (magnitudeOf w * 2 ^ exponentOf w) (2 ^ 124)
+ReadAs w x = HasValue (ofBits binary32 x) (isNegative w) (magnitudeOf w * 2 ^ exponentByte w) (2 ^ 124)
 
 -- A legal point is sent exactly, m = 0 as positive zero; any other word is sent as one pattern, a NaN. The last field
 -- says that the four bytes, low byte first, are the whole pattern.
-pub record Exact (w : ℕ) : Type 0 where
+pub record ExactFloat (w : ℕ) : Type 0 where
   pub same : isLegal w ≡ true → (magnitudeOf w ≡ 0 → ⊥) → SameValue w (floatOf w)
   pub zero : isLegal w ≡ true → magnitudeOf w ≡ 0 → floatOf w ≡ 0
   pub none : isLegal w ≡ false → floatOf w ≡ noPoint
   pub read : isLegal w ≡ true → ReadAs w (floatOf w)
   pub none-read : isLegal w ≡ false → ofBits binary32 (floatOf w) ≡ nan
-  pub bytes : numberOf (littleEndian (floatOf w)) ≡ floatOf w
+  pub bytes : bytesNumber (littleEndian (floatOf w)) ≡ floatOf w

@@ -19,8 +19,8 @@ unfoldable pub magnitudeOf : ℕ → ℕ
 magnitudeOf w = cond (isNegative w) (0x1_0000 - w % 0x1_0000) (w % 0x1_0000)
 
 -- the exponent e, the third byte
-abbrev pub exponentOf : ℕ → ℕ
-exponentOf w = w / 0x1_0000 % 0x100
+abbrev pub exponentByte : ℕ → ℕ
+exponentByte w = w / 0x1_0000 % 0x100
 
 -- the top byte, 0 in a legal point
 abbrev pub topByte : ℕ → ℕ
@@ -32,7 +32,7 @@ exponentMost = 236
 
 -- whether a word is a legal point
 unfoldable pub isLegal : ℕ → Bool
-isLegal w = eqb (topByte w) 0 && leb (exponentOf w) exponentMost
+isLegal w = eqb (topByte w) 0 && leb (exponentByte w) exponentMost
 
 -- the number of the highest set bit of a, from 0, by its leading zeros
 unfoldable pub highest : ℕ → ℕ
@@ -50,4 +50,4 @@ noPoint = 0x7FC0_0000
 -- the single that TRCB sends for a word: the point's value, positive zero for m = 0
 unfoldable pub floatOf : ℕ → ℕ
 floatOf w =
-    cond (isLegal w) (cond (eqb (magnitudeOf w) 0) 0 (singleOf (isNegative w) (magnitudeOf w) (exponentOf w))) noPoint
+    cond (isLegal w) (cond (eqb (magnitudeOf w) 0) 0 (singleOf (isNegative w) (magnitudeOf w) (exponentByte w))) noPoint

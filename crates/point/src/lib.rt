@@ -3,7 +3,7 @@ ghost use mathlib.Core.Bool.{false};
 ghost use mathlib.Core.Path.{_≡_};
 ghost use Prim.Native.Nat.{_≤_, _<_};
 ghost use Rattle.point.specs.Point.{magnitudeMost, exponentMost, isLegal, isNegative};
-ghost use Rattle.point.specs.Point.{magnitudeOf, exponentOf, singleOf, floatOf};
+ghost use Rattle.point.specs.Point.{magnitudeOf, exponentByte, singleOf, floatOf};
 ghost use Rattle.point.specs.Bytes.{littleEndian};
 
 // A legal point's exponent is at most this.
@@ -20,7 +20,7 @@ const NO_POINT: u32 = 0x7FC0_0000;
 
 // The third byte, the point's exponent e.
 fn exponent(word: u32) -> u32
-    ensures { λ r. ⌜ r ≡ exponentOf word ⌝ }
+    ensures { λ r. ⌜ r ≡ exponentByte word ⌝ }
 {
     word / 0x1_0000 % 0x100
 }

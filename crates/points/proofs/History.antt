@@ -46,7 +46,7 @@ use Rattle.event.specs.declared.Event.{Event}
 use Rattle.event.specs.declared.Event.the-variants as event
 use Rattle.state.proofs.Sound.{sound}
 use Rattle.invariant.specs.StaysValid.{Stays}
-use Rattle.points.specs.Points.{History, Holds, afterTick, afterTrigger, afterEvent, afterAction, afterKind}
+use Rattle.points.specs.Points.{History, Holds, afterTick, afterTrigger, historyAfterEvent, afterAction, afterKind}
 use Rattle.points.specs.Points.{afterText, afterTexts}
 use Rattle.points.specs.Points as points
 use Rattle.invariant.proofs.Command.{performed-by}
@@ -215,8 +215,8 @@ module _ (history : History) (s : State) (one two : List ℕ) (h : Holds history
 
   pub event-holds : (e : Event) →
       let o = eventOf e s one two in
-      Holds (afterEvent e s history) (o .after) (o .one) (o .two)
-  unfolding eventOf sampledIn sampledBy afterEvent
+      Holds (historyAfterEvent e s history) (o .after) (o .one) (o .two)
+  unfolding eventOf sampledIn sampledBy historyAfterEvent
   event-holds event.Tick = tick-holds history s (sampledBy (tickOf s) s) one two h f refl refl refl
   event-holds event.Trigger = trigger-holds history s (sampledBy (triggerOf s) s) one two h f refl refl refl
   event-holds (event.Latest w v) = pair-holds w v
@@ -355,6 +355,6 @@ module _ (room : ℕ) where
   pub line-holds : (line : List ℕ) (s : State) (one two : List ℕ) (history : History) → Fits s one two →
       Holds history s one two →
       let n = lineOf room line s one two in
-      Holds (points.afterLine room line s one two history) (n .after) (n .one) (n .two)
+      Holds (points.historyAfterLine room line s one two history) (n .after) (n .one) (n .two)
   unfolding lineOf
   line-holds line s one two history f h = run-holds (textsOf line) (startLine s one two) history f h

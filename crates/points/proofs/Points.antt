@@ -31,8 +31,8 @@ use Rattle.module.specs.declared.Module.{Module}
 use Rattle.lockin.specs.Start.{startCall}
 use Rattle.lockin.specs.Calls.{withQueue, guarded, refusedWhole, lineEnd, wholeEnd, wholeLine, lineCall}
 use Rattle.lockin.specs.Calls.{receivedCall, byteReceived, byteCall, eventCall}
-use Rattle.points.specs.Points.{History, Holds, unlessRefused, afterLine, afterLineCall, afterEnded}
-use Rattle.points.specs.Points.{afterByteCall, afterEvent, afterEventCall, Stored, byStart, byLine, byByte}
+use Rattle.points.specs.Points.{History, Holds, unlessRefused, historyAfterLine, afterLineCall, afterEnded}
+use Rattle.points.specs.Points.{afterByteCall, historyAfterEvent, afterEventCall, Stored, byStart, byLine, byByte}
 use Rattle.points.specs.Points.{byEvent, PointsKept, traceQuery, RepliesPoints}
 use Rattle.invariant.proofs.StaysValid.{passes, start-by}
 use Rattle.points.proofs.History.{Fits, emptied-holds, event-holds, marked-holds, line-holds}
@@ -82,13 +82,13 @@ module _ (history : History) (m : Module) (one two : List ℕ) (h : Holds histor
 
   whole-holds : (room : ℕ) (line : List ℕ) → Fits (m .state) one two →
       let c = wholeLine room line m one two in
-      Holds (cond (leb (length line) queue.lineLimit) (afterLine room line (m .state) one two history) history)
+      Holds (cond (leb (length line) queue.lineLimit) (historyAfterLine room line (m .state) one two history) history)
       (c .after .state) (c .one) (c .two)
   unfolding wholeLine wholeEnd lineEnd
   whole-holds room line f = by (leb (length line) queue.lineLimit) where
     by : (t : Bool) →
         let c = lineEnd (cond t ending.Line ending.TooLong) room line (m .state) one two in
-        Holds (cond t (afterLine room line (m .state) one two history) history) (c .after) (c .one) (c .two)
+        Holds (cond t (historyAfterLine room line (m .state) one two history) history) (c .after) (c .one) (c .two)
     by true = line-holds room line (m .state) one two history f h
     by false = long-holds f
 
@@ -98,7 +98,7 @@ module _ (history : History) (m : Module) (one two : List ℕ) (h : Holds histor
   unfolding lineCall afterLineCall
   line-kept room line =
       guarded-holds refusedWhole (guardOf m (length one) (length two)) refl (wholeLine room line m one two)
-      (cond (leb (length line) queue.lineLimit) (afterLine room line (m .state) one two history) history)
+      (cond (leb (length line) queue.lineLimit) (historyAfterLine room line (m .state) one two history) history)
       (whole-holds room line)
 
   ended-holds : (room : ℕ) (e : LineEnd) (q : Queue) → Fits (m .state) one two →
@@ -125,7 +125,7 @@ module _ (history : History) (m : Module) (one two : List ℕ) (h : Holds histor
   event-kept e =
       guarded-holds Refused (guardOf m (length one) (length two)) refl
       (withQueue (m .queue) (eventOf e (m .state) one two))
-      (afterEvent e (m .state) history) (λ f. event-holds history (m .state) one two h f e)
+      (historyAfterEvent e (m .state) history) (λ f. event-holds history (m .state) one two h f e)
 
 made-holds : (history : History) (m : Module) (one two : List ℕ) → Stored history m one two →
     Holds history (m .state) one two

@@ -29,7 +29,7 @@ use Rattle.effect.specs.Effect.{enablesAfter, changedBy, stateAfter}
 use Rattle.reply_buffer.specs.Buffer.{wordAt, pointBytes}
 use Rattle.reply.specs.Text.{textOf, terminatorOf}
 use Rattle.reply.specs.Reply.{terminatedText, traceOf, traceReply, queryReply}
-use Rattle.points.specs.Points.{History, InSlots, pairAt, Holds, heldOf, wordOf, sentOf, traceName, traceQuery}
+use Rattle.points.specs.Points.{History, InSlots, pairAt, Holds, heldOf, traceWord, sentPoints, traceName, traceQuery}
 use Rattle.invariant.proofs.Meanings.{Name}
 use Rattle.invariant.proofs.OneCommand.{Says}
 use Rattle.demand2.proofs.Parsing.{trace-asked}
@@ -38,23 +38,23 @@ use Rattle.points.proofs.Slots.{bin-mod}
 -- ---- points from a bin on
 
 module _ (form : Form) (t : ℕ) (history : History) (c : ℕ) (trace : List ℕ) (some : 1 ≤ c) (fits : length trace ≡ c)
-    (lies : InSlots (wordOf t) history c trace) where
+    (lies : InSlots (traceWord t) history c trace) where
   held-length : length (heldOf c history) ≡ min (length history) c
   held-length = length-drop (length history - c) history ∙ omega arith
 
   -- the word of bin j
   bin-word : (j : ℕ) → j < min (length history) c →
-      wordAt trace (length history % c + (c - min (length history) c) + j) ≡ wordOf t (pairAt (heldOf c history) j)
+      wordAt trace (length history % c + (c - min (length history) c) + j) ≡ traceWord t (pairAt (heldOf c history) j)
   unfolding wordAt
   bin-word j l =
       rw (fits, bin-mod (length history) c j some)
       (lies (length history - c + j) (omega arith) (omega arith)
-      ∙ ap (wordOf t) (sym (getD-drop (length history - c) history j (record { one = 0; two = 0 }))))
+      ∙ ap (traceWord t) (sym (getD-drop (length history - c) history j (record { one = 0; two = 0 }))))
 
   sent-is : (j count : ℕ) → j + count ≤ min (length history) c →
       pointBytes form trace (length history % c + (c - min (length history) c) + j) count
-      ≡ sentOf form t (take count (drop j (heldOf c history)))
-  unfolding pointBytes sentOf
+      ≡ sentPoints form t (take count (drop j (heldOf c history)))
+  unfolding pointBytes sentPoints
   sent-is j zero l = refl
   sent-is j (suc count) l =
       let inside : j < length (heldOf c history) = omega (arith, held-length) in
@@ -67,7 +67,7 @@ module _ (form : Form) (t : ℕ) (history : History) (c : ℕ) (trace : List ℕ
 
 -- both words of a pair, by the trace asked for
 lies-in : (t : ℕ) (history : History) (s : State) (one two : List ℕ) → Holds history s one two →
-    InSlots (wordOf t) history (s .installation .capacity) (traceOf t one two)
+    InSlots (traceWord t) history (s .installation .capacity) (traceOf t one two)
 lies-in t history s one two h = by (eqb t 1) where
   by : (b : Bool) → InSlots (λ p. cond b (p .one) (p .two)) history (s .installation .capacity) (cond b one two)
   by true = h .first
@@ -126,7 +126,7 @@ module _ (history : History) (s : State) (one two : List ℕ) (h : Holds history
 
   pub trace-reply : 1 ≤ s .installation .capacity → length one ≡ s .installation .capacity → length two ≡ s .installation .capacity →
       (form : Form) (t bin count : ℕ) → bin + count ≤ min (length history) (s .installation .capacity) →
-      queryReply (query.Trace form t bin count) s false one two ≡ sentOf form t
+      queryReply (query.Trace form t bin count) s false one two ≡ sentPoints form t
       (take count (drop bin (heldOf (s .installation .capacity) history)))
   unfolding queryReply traceReply oldestOf
   trace-reply some first second form t bin count l =

@@ -68,12 +68,12 @@ unfoldable pub afterTrigger : State → History → History
 afterTrigger s history = pairStored (triggerStores (s .acquisition .storage) (samplingOf (s .settings))) s history
 
 -- an event: a tick and a trigger may store, the others do not
-unfoldable pub afterEvent : Event → State → History → History
-afterEvent event.Tick s history = afterTick s history
-afterEvent event.Trigger s history = afterTrigger s history
-afterEvent (event.Latest w v) s history = history
-afterEvent (event.Measured f) s history = history
-afterEvent (event.Raised lia errors) s history = history
+unfoldable pub historyAfterEvent : Event → State → History → History
+historyAfterEvent event.Tick s history = afterTick s history
+historyAfterEvent event.Trigger s history = afterTrigger s history
+historyAfterEvent (event.Latest w v) s history = history
+historyAfterEvent (event.Measured f) s history = history
+historyAfterEvent (event.Raised lia errors) s history = history
 
 -- a command without arguments: REST and *RST empty storage, TRIG is a trigger; STRT, PAUS and *CLS store nothing
 unfoldable pub afterAction : Action → State → History → History
@@ -106,8 +106,8 @@ afterTexts room (text ∷ more) l history =
     cond (next .report .dropped) now (afterTexts room more next now)
 
 -- a line that runs
-abbrev pub afterLine : ℕ → List ℕ → State → List ℕ → List ℕ → History → History
-afterLine room line s one two history = afterTexts room (textsOf line) (startLine s one two) history
+abbrev pub historyAfterLine : ℕ → List ℕ → State → List ℕ → List ℕ → History → History
+historyAfterLine room line s one two history = afterTexts room (textsOf line) (startLine s one two) history
 
 -- a call: 11 and 9 refuse it before anything is stored
 unfoldable pub unlessRefused : Outcome → History → History → History
@@ -118,12 +118,12 @@ unlessRefused (Refused r) now history = history
 unfoldable pub afterLineCall : ℕ → List ℕ → Module → List ℕ → List ℕ → History → History
 afterLineCall room line m one two history =
     unlessRefused (guardOf m (length one) (length two))
-    (cond (leb (length line) lineLimit) (afterLine room line (m .state) one two history) history) history
+    (cond (leb (length line) lineLimit) (historyAfterLine room line (m .state) one two history) history) history
 
 -- what a byte ends: the line that waits in the queue runs, and nothing else stores
 unfoldable pub afterEnded : LineEnd → Queue → ℕ → Module → List ℕ → List ℕ → History → History
 afterEnded ending.Nothing q room m one two history = history
-afterEnded ending.Line q room m one two history = afterLine room (waitingBytes q) (m .state) one two history
+afterEnded ending.Line q room m one two history = historyAfterLine room (waitingBytes q) (m .state) one two history
 afterEnded ending.TooLong q room m one two history = history
 
 -- a byte
@@ -136,7 +136,7 @@ afterByteCall room b mark m one two history =
 -- an event
 unfoldable pub afterEventCall : Event → Module → List ℕ → List ℕ → History → History
 afterEventCall e m one two history =
-    unlessRefused (guardOf m (length one) (length two)) (afterEvent e (m .state) history) history
+    unlessRefused (guardOf m (length one) (length two)) (historyAfterEvent e (m .state) history) history
 
 -- ---- what the module and its traces hold
 
@@ -207,13 +207,13 @@ abbrev pub heldOf : ℕ → History → History
 heldOf capacity history = drop (length history - capacity) history
 
 -- the word of trace 1 or of trace 2
-abbrev pub wordOf : ℕ → Pair → ℕ
-wordOf t p = cond (eqb t 1) (p .one) (p .two)
+abbrev pub traceWord : ℕ → Pair → ℕ
+traceWord t p = cond (eqb t 1) (p .one) (p .two)
 
 -- points as they are sent, four bytes each, low byte first: words by TRCL?, floats by TRCB?
-unfoldable pub sentOf : Form → ℕ → List Pair → List ℕ
-sentOf form t [] = []
-sentOf form t (p ∷ more) = littleEndian (formed form (wordOf t p)) ++ sentOf form t more
+unfoldable pub sentPoints : Form → ℕ → List Pair → List ℕ
+sentPoints form t [] = []
+sentPoints form t (p ∷ more) = littleEndian (formed form (traceWord t p)) ++ sentPoints form t more
 
 -- the name of the query that sends points in this form
 abbrev pub traceName : Form → List ℕ
@@ -241,7 +241,7 @@ pub record PointsReplied (history : History) (m : Module) (one two : List ℕ) :
       length out ≤ room → lineCall room (bytes "SPTS?") m one two ≡ answered out m one two
   pub trace : (room : ℕ) (form : Form) (t bin count : ℕ) → 1 ≤ t → t ≤ traces → 1 ≤ count →
       bin + count ≤ heldCount history m →
-      let out = sentOf form t (take count (drop bin (heldOf (m .state .installation .capacity) history))) in
+      let out = sentPoints form t (take count (drop bin (heldOf (m .state .installation .capacity) history))) in
       length out ≤ room → lineCall room (traceQuery form t bin count) m one two ≡ answered out m one two
   pub beyond : (room : ℕ) (form : Form) (t bin count : ℕ) → 1 ≤ t → t ≤ traces → bin ≤ capacityMost → 1 ≤ count →
       count ≤ capacityMost →

@@ -15,14 +15,14 @@ abbrev pub queueOf : List ℕ → ℕ → Bool → Queue
 queueOf bytes len discarding = record { bytes = bytes; len = len; discarding = discarding }
 
 -- the bytes with the byte b at an offset, if it is stored and there is room
-abbrev pub storedIn : Bool → ℕ → ℕ → List ℕ → List ℕ
-storedIn stores at b bytes = cond (stores && ltb at lineLimit) (set bytes at b) bytes
+abbrev pub bytesWith : Bool → ℕ → ℕ → List ℕ → List ℕ
+bytesWith stores at b bytes = cond (stores && ltb at lineLimit) (set bytes at b) bytes
 
 -- the step r says what a byte b does to every queue in which len bytes wait: received, the result, which is the queue
 -- after it and what it ends; run, the queue once a line that ended has run
 pub record Describes (result : List ℕ → Received) (len b : ℕ) (r : QueueStep) : Type 0 where
   pub received : (bytes : List ℕ) → result bytes
-      ≡ record { queue = queueOf (storedIn (r .stores) len b bytes) (r .line) (r .discarding); ending = r .ending }
+      ≡ record { queue = queueOf (bytesWith (r .stores) len b bytes) (r .line) (r .discarding); ending = r .ending }
   pub run : (bytes : List ℕ) → afterRun (r .ending) (queueOf bytes (r .line) (r .discarding))
       ≡ queueOf bytes (r .len) (r .discarding)
 

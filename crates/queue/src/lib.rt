@@ -5,7 +5,7 @@ ghost use Prim.Native.Nat.{_+_, _≤_, min};
 ghost use lib.ListN.{length, take, drop};
 ghost use Rattle.queue.specs.Queue.{lineLimit, emptyQueue, endsLine, isMarked, appendedOf, receivedOf};
 ghost use Rattle.queue.specs.Queue.{noEnd, isValid};
-ghost use Rattle.queue.specs.Parts.{queueOf, storedIn, Describes, block, EndNone};
+ghost use Rattle.queue.specs.Parts.{queueOf, bytesWith, Describes, block, EndNone};
 use line_text::LINE;
 
 // The number of the RS232 port.
@@ -150,7 +150,7 @@ pub fn step_of(len: usize, discarding: bool, port: u8, b: u8, mark: bool) -> Que
 
 // Stores a byte at the offset `at`, if it is to be stored.
 pub fn store(bytes: &mut [u8; LINE], at: usize, b: u8, stores: bool)
-    ensures { λ _. ⌜ now (bytes .exit) ≡ storedIn stores at b (now (bytes .entry)) ⌝ }
+    ensures { λ _. ⌜ now (bytes .exit) ≡ bytesWith stores at b (now (bytes .entry)) ⌝ }
 {
     if stores {
         if at < LINE {

@@ -9,7 +9,7 @@ use types.Run.{OneOf, miss}
 use Rattle.format.specs.Parts.{appended}
 use Rattle.reply_buffer.specs.declared.Sent.{Sent}
 use Rattle.reply_buffer.specs.Buffer.{fitsIn}
-use Rattle.reply_buffer.specs.Parts.{sentOf, Sends}
+use Rattle.reply_buffer.specs.Parts.{sentBy, Sends}
 use Rattle.reply_buffer.proofs.Over.{over-none}
 use Rattle.reply_buffer.proofs.Sending.{all-sent}
 use Rattle.command.specs.declared.QueryArgument.{QueryArgument}
@@ -62,6 +62,6 @@ none-replied (Query q) s waiting one two h = absurd (miss others 1 tt h)
 none-replied (Act a) s waiting one two h = refl
 
 -- nothing is sent, and the room keeps its bytes
-pub none-sent : (room : List ℕ) {r : Sent} → r ≡ sentOf [] 0 → Sends [] r room room
+pub none-sent : (room : List ℕ) {r : Sent} → r ≡ sentBy [] 0 → Sends [] r room room
 unfolding fitsIn
 none-sent room e = rw e (all-sent [] room room 0 refl (omega arith) (sym (over-none room)))

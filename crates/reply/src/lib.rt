@@ -3,7 +3,7 @@ ghost use mathlib.Core.Path.{_≡_};
 ghost use mathlib.Core.List.{[]};
 ghost use Prim.Native.Nat.{_+_};
 ghost use Rattle.storage.specs.Storage.{oldestOf};
-ghost use Rattle.reply_buffer.specs.Parts.{sentOf, Sends};
+ghost use Rattle.reply_buffer.specs.Parts.{sentBy, Sends};
 ghost use Rattle.reply.specs.Reply.{terminatedText, traceReply, queryReply, replyOf};
 
 mod text;
@@ -74,7 +74,7 @@ fn send_query(
 
 // Nothing to send, which fits any room.
 fn nothing() -> Sent
-    ensures { λ r. ⌜ r ≡ sentOf [] 0 ⌝ }
+    ensures { λ r. ⌜ r ≡ sentBy [] 0 ⌝ }
 {
     Sent {
         fits: true,

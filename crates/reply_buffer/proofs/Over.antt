@@ -13,7 +13,7 @@ use Rattle.laws.proofs.Tests.{split}
 use Rattle.point.specs.Bytes.{lowFirst, littleEndian}
 use Rattle.mnemonic.specs.declared.Form.{Form}
 use Rattle.reply_buffer.specs.Buffer.{overwrite, fitsIn, sentBytes, pointBytes}
-use Rattle.reply_buffer.specs.Parts.{sentOf}
+use Rattle.reply_buffer.specs.Parts.{sentBy}
 
 -- nothing is written: the room keeps its bytes
 pub over-none : (room : List ℕ) → overwrite [] room ≡ room
@@ -54,7 +54,7 @@ unfolding sentBytes fitsIn
 sentBytes-length bytes room =
     split (leb (length bytes) room) (λ e. rw e (leb-true (length bytes) room e)) (λ e. rw e (omega arith))
 
-pub sent-written : (bytes : List ℕ) (room : ℕ) → sentOf bytes room .written ≡ length (sentBytes bytes room)
+pub sent-written : (bytes : List ℕ) (room : ℕ) → sentBy bytes room .written ≡ length (sentBytes bytes room)
 unfolding sentBytes
 sent-written bytes room = split (fitsIn bytes room) (λ e. rw e) (λ e. rw e)
 

@@ -10,12 +10,12 @@ use Rattle.reply_buffer.specs.Buffer.{overwrite, fitsIn, sentBytes}
 use Rattle.reply_buffer.specs.declared.Sent.{Sent}
 
 -- what is reported of a reply: whether it fits, and how many bytes were written
-abbrev pub sentOf : List ℕ → ℕ → Sent
-sentOf bytes room = record { fits = fitsIn bytes room; written = cond (fitsIn bytes room) (length bytes) 0 }
+abbrev pub sentBy : List ℕ → ℕ → Sent
+sentBy bytes room = record { fits = fitsIn bytes room; written = cond (fitsIn bytes room) (length bytes) 0 }
 
 -- the code's result r and the reply room `new` are those of sending bytes; the room was `old` before
 pub record Sends (bytes : List ℕ) (r : Sent) (new old : List ℕ) : Type 0 where
-  pub sent : r ≡ sentOf bytes (length old)
+  pub sent : r ≡ sentBy bytes (length old)
   pub reply : new ≡ overwrite (sentBytes bytes (length old)) old
 
 -- the slot of a place, where places are counted on and on round the trace; 0 where there is no slot

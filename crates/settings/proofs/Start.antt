@@ -4,7 +4,7 @@ use mathlib.Core.Bool.{Bool, true, _&&_}
 use mathlib.Core.List.{[], _∷_, map}
 use lib.Dec.{leb}
 use lib.ListN.{length}
-use Rattle.settings.specs.Table.{entries, table, rowOf, startSettings, valueOf, whole, phase, frequency, level}
+use Rattle.settings.specs.Table.{entries, table, rowOf, startSettings, valueOf, wholeRow, phase, frequency, level}
 use Rattle.settings.specs.Table.{phas, fmod, freq, harm, slvl, oflt, srat, send, tstr}
 use Rattle.settings.specs.Frequency.{stepBy, inForce, detectionOf, externalStart}
 use Rattle.settings.specs.Setting.{stepOf}
@@ -38,7 +38,7 @@ rows-ordered = refl
 -- the entries that rules name have the rows of their settings
 pub entries-named :
     map rowOf (phas ∷ fmod ∷ freq ∷ harm ∷ slvl ∷ oflt ∷ srat ∷ send ∷ tstr ∷ [])
-    ≡ phase ∷ whole 0 1 1 ∷ frequency ∷ whole 1 19999 1 ∷ level ∷ whole 0 19 8 ∷ whole 0 14 4 ∷ whole 0 1 1
-    ∷ whole 0 1 0 ∷ []
+    ≡ phase ∷ wholeRow 0 1 1 ∷ frequency ∷ wholeRow 1 19999 1 ∷ level ∷ wholeRow 0 19 8 ∷ wholeRow 0 14 4 ∷ wholeRow 0 1 1
+    ∷ wholeRow 0 1 0 ∷ []
 unfolding table rowOf
 entries-named = refl

@@ -12,8 +12,8 @@ use Rattle.settings.specs.declared.Settings.{Settings}
 -- kept as x + bias, so that none is negative, and a row's low, high, least, most and start are kept so too.
 
 -- a row whose arguments are all kept as they are, on a step of its own
-abbrev pub plain : (bias low high step decimals start : ℕ) → Row
-plain bias low high step decimals start =
+abbrev pub plainRow : (bias low high step decimals start : ℕ) → Row
+plainRow bias low high step decimals start =
     record {
       bias = bias;
       low = low;
@@ -28,12 +28,12 @@ plain bias low high step decimals start =
     }
 
 -- whole numbers from low to high
-abbrev pub whole : ℕ → ℕ → ℕ → Row
-whole low high start = plain 0 low high 1 0 start
+abbrev pub wholeRow : ℕ → ℕ → ℕ → Row
+wholeRow low high start = plainRow 0 low high 1 0 start
 
 -- from -end to end, start 0
 abbrev pub signed : (decimals end : ℕ) → Row
-signed decimals end = plain end 0 (end + end) 1 decimals end
+signed decimals end = plainRow end 0 (end + end) 1 decimals end
 
 -- a whole turn, 360.00
 abbrev pub turn : ℕ
@@ -77,7 +77,7 @@ frequency =
 
 -- the level of the sine output: 0.004 to 5.000 V by 0.002, start 1
 abbrev pub level : Row
-level = plain 0 4 5000 2 3 1000
+level = plainRow 0 4 5000 2 3 1000
 
 -- a phase brought by whole turns into the range that is kept
 unfoldable pub turnedOf : ℕ → ℕ
@@ -87,39 +87,39 @@ turnedOf x = phase .least + (x + (turn - phase .least)) % turn
 unfoldable pub table : List Row
 table =
     phase  -- PHAS x: -360.00 to 729.99, 0.01
-    ∷ whole 0 1 1  -- FMOD i: 0 external, 1 internal; start 1
+    ∷ wholeRow 0 1 1  -- FMOD i: 0 external, 1 internal; start 1
     ∷ frequency  -- FREQ f: 0.001 to 102000 Hz; start 1000 (step by value)
-    ∷ whole 0 2 0  -- RSLP i: 0-2
-    ∷ whole 1 19999 1  -- HARM i: 1-19999; start 1
+    ∷ wholeRow 0 2 0  -- RSLP i: 0-2
+    ∷ wholeRow 1 19999 1  -- HARM i: 1-19999; start 1
     ∷ level  -- SLVL x: 0.004 to 5.000 V, 0.002; start 1
-    ∷ whole 0 3 0  -- ISRC: 0-3
-    ∷ whole 0 3 0  -- ILIN: 0-3
-    ∷ whole 0 3 1  -- OFSL: 0-3; start 1
-    ∷ whole 0 1 0  -- IGND: 0-1
-    ∷ whole 0 1 0  -- ICPL: 0-1
-    ∷ whole 0 1 0  -- SYNC: 0-1
-    ∷ whole 0 26 26  -- SENS: 0-26; start 26
-    ∷ whole 0 2 2  -- RMOD: 0-2; start 2
-    ∷ whole 0 19 8  -- OFLT: 0-19; start 8
-    ∷ whole 0 4 0  -- DDEF 1 j: 0-4
-    ∷ whole 0 2 0  -- DDEF 1 k: 0-2
-    ∷ whole 0 4 0  -- DDEF 2 j
-    ∷ whole 0 2 0  -- DDEF 2 k
-    ∷ whole 0 1 0  -- FPOP 1 j: 0-1
-    ∷ whole 0 1 0  -- FPOP 2 j
+    ∷ wholeRow 0 3 0  -- ISRC: 0-3
+    ∷ wholeRow 0 3 0  -- ILIN: 0-3
+    ∷ wholeRow 0 3 1  -- OFSL: 0-3; start 1
+    ∷ wholeRow 0 1 0  -- IGND: 0-1
+    ∷ wholeRow 0 1 0  -- ICPL: 0-1
+    ∷ wholeRow 0 1 0  -- SYNC: 0-1
+    ∷ wholeRow 0 26 26  -- SENS: 0-26; start 26
+    ∷ wholeRow 0 2 2  -- RMOD: 0-2; start 2
+    ∷ wholeRow 0 19 8  -- OFLT: 0-19; start 8
+    ∷ wholeRow 0 4 0  -- DDEF 1 j: 0-4
+    ∷ wholeRow 0 2 0  -- DDEF 1 k: 0-2
+    ∷ wholeRow 0 4 0  -- DDEF 2 j
+    ∷ wholeRow 0 2 0  -- DDEF 2 k
+    ∷ wholeRow 0 1 0  -- FPOP 1 j: 0-1
+    ∷ wholeRow 0 1 0  -- FPOP 2 j
     ∷ signed 2 10500  -- OEXP 1 x: -105.00 to 105.00 step 0.01
-    ∷ whole 0 2 0  -- OEXP 1 j: 0-2
+    ∷ wholeRow 0 2 0  -- OEXP 1 j: 0-2
     ∷ signed 2 10500  -- OEXP 2 x
-    ∷ whole 0 2 0  -- OEXP 2 j
+    ∷ wholeRow 0 2 0  -- OEXP 2 j
     ∷ signed 2 10500  -- OEXP 3 x
-    ∷ whole 0 2 0  -- OEXP 3 j
+    ∷ wholeRow 0 2 0  -- OEXP 3 j
     ∷ signed 3 10500  -- AUXV 1 x: -10.500 to 10.500, 0.001
     ∷ signed 3 10500  -- AUXV 2 x
     ∷ signed 3 10500  -- AUXV 3 x
     ∷ signed 3 10500  -- AUXV 4 x
-    ∷ whole 0 14 4  -- SRAT: 0-14; start 4
-    ∷ whole 0 1 1  -- SEND: 0-1; start 1
-    ∷ whole 0 1 0  -- TSTR: 0-1
+    ∷ wholeRow 0 14 4  -- SRAT: 0-14; start 4
+    ∷ wholeRow 0 1 1  -- SEND: 0-1; start 1
+    ∷ wholeRow 0 1 0  -- TSTR: 0-1
     ∷ []
 
 -- PHAS, the phase
@@ -220,7 +220,7 @@ nextEntry entry = cond (ltb entry entries) (entry + 1) entries
 
 -- the row past the table: no value is taken
 abbrev pub noRow : Row
-noRow = whole 1 0 0
+noRow = wholeRow 1 0 0
 
 -- the row of an entry
 unfoldable pub rowOf : ℕ → Row

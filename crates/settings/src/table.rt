@@ -3,7 +3,7 @@
 ghost use mathlib.Core.Path.{_≡_};
 ghost use mathlib.Core.List.{map};
 ghost use Prim.Native.Nat.{_+_, _^_, _<_};
-ghost use Rattle.settings.specs.Table.{plain, whole, signed, phase, frequency, level, table, rowOf};
+ghost use Rattle.settings.specs.Table.{plainRow, wholeRow, signed, phase, frequency, level, table, rowOf};
 use super::ENTRIES;
 use super::Row;
 use super::Settings;
@@ -34,7 +34,7 @@ pub const LEVEL_STEP: u32 = 2;
 
 // A row whose arguments are all kept as they are, on a step of its own.
 fn plain(bias: u32, low: u32, high: u32, step: u32, decimals: u8, start: u32) -> Row
-    ensures { λ r. ⌜ r ≡ plain bias low high step decimals start ⌝ }
+    ensures { λ r. ⌜ r ≡ plainRow bias low high step decimals start ⌝ }
 {
     Row {
         bias,
@@ -52,7 +52,7 @@ fn plain(bias: u32, low: u32, high: u32, step: u32, decimals: u8, start: u32) ->
 
 // Whole numbers from low to high.
 fn whole(low: u32, high: u32, start: u32) -> Row
-    ensures { λ r. ⌜ r ≡ whole low high start ⌝ }
+    ensures { λ r. ⌜ r ≡ wholeRow low high start ⌝ }
 {
     plain(0, low, high, 1, 0, start)
 }

@@ -8,7 +8,7 @@ use mathlib.Core.Path.{_≡_, sym, ap, _∙_}
 use lib.ListN.{getD}
 use Rattle.status.specs.Bits.{bitOf, meets, flag}
 use Rattle.status.specs.Status.{otherBits, statusByte}
-use Rattle.status.specs.Flags.{tests, digit, StatusBits}
+use Rattle.status.specs.Flags.{tests, bitOfTest, StatusBits}
 use Rattle.status.specs.declared.Registers.{Registers}
 use Rattle.status.specs.declared.Enables.{Enables}
 use Rattle.status.specs.declared.Poll.{Poll}
@@ -35,18 +35,18 @@ other-lt r e p =
 -- the number that bits make, bit 0 first
 abbrev packed : List Bool → ℕ
 packed [] = 0
-packed (t ∷ ts) = digit t + packed ts * 2
+packed (t ∷ ts) = bitOfTest t + packed ts * 2
 
-digit-lt : (t : Bool) → digit t < 2
+digit-lt : (t : Bool) → bitOfTest t < 2
 digit-lt true = omega arith
 digit-lt false = omega arith
 
-flag-digit : (t : Bool) (i : ℕ) → flag t i ≡ digit t * 2 ^ i
+flag-digit : (t : Bool) (i : ℕ) → flag t i ≡ bitOfTest t * 2 ^ i
 unfolding flag
 flag-digit true i = sym (one-mul (2 ^ i))
 flag-digit false i = sym (zero-mul (2 ^ i))
 
-packed-bit : (ts : List Bool) (i : ℕ) → bitOf (packed ts) i ≡ digit (getD ts i false)
+packed-bit : (ts : List Bool) (i : ℕ) → bitOf (packed ts) i ≡ bitOfTest (getD ts i false)
 packed-bit [] i = bit-none i
 packed-bit (t ∷ ts) zero = bit-zero (packed (t ∷ ts)) ∙ omega (arith, digit-lt t)
 packed-bit (t ∷ ts) (suc i) =

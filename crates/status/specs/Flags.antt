@@ -23,10 +23,10 @@ tests r e p =
     ∷ []
 
 -- a test as a bit: 1 where it holds, else 0
-abbrev pub digit : Bool → ℕ
-digit t = cond t 1 0
+abbrev pub bitOfTest : Bool → ℕ
+bitOfTest t = cond t 1 0
 
 -- each bit of the status byte is set exactly where its test holds, and no bit past 6 is set
 abbrev pub StatusBits : Type 0
 StatusBits = (r : Registers) (e : Enables) (p : Poll) (i : ℕ) →
-    bitOf (statusByte r e p) i ≡ digit (getD (tests r e p) i false)
+    bitOf (statusByte r e p) i ≡ bitOfTest (getD (tests r e p) i false)

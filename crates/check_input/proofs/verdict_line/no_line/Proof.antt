@@ -4,7 +4,7 @@ use mathlib.Core.Path.{_≡_, _∙_}
 use mathlib.Core.List.{List, _++_, append-assoc}
 use Rattle.split.specs.Ascii.{bytes}
 use Rattle.outcome.specs.Code.{codeOf}
-use Rattle.check_input.specs.VerdictLine.{lineEnd, spaced, saidText}
+use Rattle.check_input.specs.VerdictLine.{endOfLine, spaced, saidText}
 use borrow.Author.Needs.{needs}
 use Rattle.check_input.proofs.verdict_line.no_line.Statement.{statement}
 use Rattle.check_input.proofs.verdict_line.no_line.Tie as tie
@@ -24,7 +24,7 @@ returns c =
     c .append .ensures .0
     ∙ rw (third .append-number3 .ensures .0, second .append-number2 .ensures .0, first .append-number .ensures .0)
     (rw (begun .line-of-bytes .ensures .0, meaning .code-of .ensures)
-    (regroup (bytes "no") (spaced (a .line)) (spaced (a .place)) (spaced (codeOf (a .refusal) .number)) lineEnd))
+    (regroup (bytes "no") (spaced (a .line)) (spaced (a .place)) (spaced (codeOf (a .refusal) .number)) endOfLine))
 
 pub no-line-spec : {M : Type 1} → statement M
 no-line-spec =
