@@ -27,6 +27,7 @@ use Rattle.script.proofs.Parts.{parts-length}
 use Rattle.verdict.specs.declared.Verdict.{Verdict}
 use Rattle.verdict.specs.declared.Verdict.the-variants.{Fine, No}
 use Rattle.verdict.specs.PackedNumber.{lineMost, placeMost}
+use Rattle.line_text.specs.Clean.{lineLimit}
 
 -- ---- how many lines there are
 
@@ -77,7 +78,7 @@ texts-fit model place (t ∷ ts) b h =
     answer-fits (textRefusal (parsedOf t) b) place _ (omega arith)
     (texts-fit model (place + 1) ts (textAfter model (parsedOf t) b) (omega arith))
 
--- a line of at most 256 bytes has at most 257 commands
+-- a line of at most lineLimit bytes has at most 257 commands
 line-fits : (model : Model) (l : List ℕ) (b : Extremes) → PlaceFits (lineAnswer model l b)
 unfolding lineAnswer
 line-fits model l b = by (lineTooLong l) refl where
@@ -86,7 +87,7 @@ line-fits model l b = by (lineTooLong l) refl where
   by true e = omega arith
   by false e =
       texts-fit model 1 (textsOf l) (beforeLine model b)
-      (omega (arith, parts-length semicolon (cleaned l), cleaned-length l, ltb-false 256 (length l) e))
+      (omega (arith, parts-length semicolon (cleaned l), cleaned-length l, ltb-false lineLimit (length l) e))
 
 -- ---- the lines of a script
 

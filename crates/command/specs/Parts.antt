@@ -93,7 +93,8 @@ enableTaken r v = with (wholeArgument 0 registerMost v) λ x. taken (Set (set.En
 
 -- a set of bit i of an enable, once its numbers are read
 unfoldable pub enableBitTaken : Register → Quantity → Quantity → Parsed
-enableBitTaken r i v = with (wholeArgument 0 bitMost i) λ b. with (wholeArgument 0 1 v) λ x. taken (Set (set.EnableBit r b x))
+enableBitTaken r i v =
+    with (wholeArgument 0 bitMost i) λ b. with (wholeArgument 0 1 v) λ x. taken (Set (set.EnableBit r b x))
 
 -- a query of channel i of a setting, once its number is read
 unfoldable pub channelAsked : ℕ → ℕ → Quantity → Parsed
@@ -114,5 +115,6 @@ statusBitAsked r i = with (wholeArgument 0 bitMost i) λ b. taken (Query (query.
 -- a query of k points of trace i from bin j on, once its numbers are read
 unfoldable pub traceAsked : Form → Quantity → Quantity → Quantity → Parsed
 traceAsked form i j k =
-    with (wholeArgument 1 traces i) λ t. with (wholeArgument 0 capacityMost j) λ b. with (wholeArgument capacityLeast capacityMost k) λ n.
+    with (wholeArgument 1 traces i) λ t. with (wholeArgument 0 capacityMost j) λ b.
+    with (wholeArgument capacityLeast capacityMost k) λ n.
     taken (Query (query.Trace form t b n))

@@ -135,15 +135,16 @@ pub data Commands (room : ℕ) (start : Line) : List (List ℕ) → Line → ℕ
       Commands room start (before ++ (text ∷ dropped)) (afterCommand room text here) 0
 
 -- the first refused command of a line has this place, counted from 1: each command before it is accepted
-pub record FirstRefusedCommand (refusal : Refusal) (place room : ℕ) (texts : List (List ℕ)) (start : Line) : Type 0 where
-  pub before : List (List ℕ)
-  pub text : List ℕ
-  pub after : List (List ℕ)
-  pub commands : texts ≡ before ++ (text ∷ after)
-  pub counted : place ≡ length before + 1
-  pub here : Line
-  pub accepted : OneByOne (AcceptedStep room) room before start here
-  pub refused : RefusedStep refusal room text here
+pub record FirstRefusedCommand (refusal : Refusal) (place room : ℕ) (texts : List (List ℕ)) (start : Line) : Type 0
+  where
+    pub before : List (List ℕ)
+    pub text : List ℕ
+    pub after : List (List ℕ)
+    pub commands : texts ≡ before ++ (text ∷ after)
+    pub counted : place ≡ length before + 1
+    pub here : Line
+    pub accepted : OneByOne (AcceptedStep room) room before start here
+    pub refused : RefusedStep refusal room text here
 
 -- ---- a call that runs a line
 

@@ -25,6 +25,7 @@ use Rattle.lockin.specs.Calls.{withQueue, lineRan, lineCall}
 use Rattle.demand2.specs.Lines.{continued, laterAnswer, placedLater, SeveralCommands}
 use Rattle.invariant.proofs.OneCommand.{open-call}
 use Rattle.invariant.proofs.StaysValid.{stays-valid}
+use Rattle.queue.specs.Queue.{lineLimit}
 
 -- ---- x;y is divided as x and y are
 
@@ -186,16 +187,16 @@ module _ (room : ℕ) where
         report = record { answer = a i; count = c i; dropped = d i };
       }
 
-module _ (room : ℕ) (x y : List ℕ) (short : length (x ++ semicolon ∷ y) ≤ 256) (m : Module) (one two : List ℕ)
+module _ (room : ℕ) (x y : List ℕ) (short : length (x ++ semicolon ∷ y) ≤ lineLimit) (m : Module) (one two : List ℕ)
     (passes : guardOf m (length one) (length two) ≡ Done)
   where
     abbrev ranFirst : Line
     ranFirst = lineOf room x (m .state) one two
 
-    short-first : length x ≤ 256
+    short-first : length x ≤ lineLimit
     short-first = omega (arith, length-append x (semicolon ∷ y))
 
-    short-second : length y ≤ 256
+    short-second : length y ≤ lineLimit
     short-second = omega (arith, length-append x (semicolon ∷ y))
 
     both : lineCall room (x ++ semicolon ∷ y) m one two ≡ withQueue (m .queue) (lineRan (continued room y ranFirst))

@@ -40,6 +40,7 @@ use Rattle.invariant.proofs.Bytes.{parts-free, parts-joined, begins-other, clea
 use Rattle.invariant.proofs.Bytes.{plain-bytes, plain-some, signed-bytes, signed-some}
 use Rattle.invariant.proofs.Meanings.{Name, Alike, alike-text, alike-keeps}
 use Rattle.invariant.proofs.OneCommand.{Says}
+use Rattle.settings.specs.Limits.{capacityMost}
 
 -- several arguments, divided by ","
 text-one : (x : List ℕ) → 1 ≤ length x → all inNumber x ≡ true → arguments x ≡ x ∷ []
@@ -252,15 +253,15 @@ module _ (name : List ℕ) (n : Name name) where
           ))
 
   -- a trace query
-  pub trace-asked : (form : Form) (t bin count : ℕ) → meaningOf name ≡ Trace form → 1 ≤ t → t ≤ 2 → bin ≤ 16383 →
-      1 ≤ count → count ≤ 16383 →
+  pub trace-asked : (form : Form) (t bin count : ℕ) → meaningOf name ≡ Trace form → 1 ≤ t → t ≤ 2 → bin ≤ capacityMost →
+      1 ≤ count → count ≤ capacityMost →
       let text = plain t ++ comma ∷ (plain bin ++ comma ∷ plain count) in
       Says (name ++ (63 ∷ text)) (Query (query.Trace form t bin count))
   unfolding queryWith queryTrace three
   trace-asked form t bin count means low high far some most =
       let x = whole-again 1 2 t low high (omega arith) in
-      let y = whole-again 0 16383 bin (omega arith) far (omega arith) in
-      let z = whole-again 1 16383 count some most (omega arith) in
+      let y = whole-again 0 capacityMost bin (omega arith) far (omega arith) in
+      let z = whole-again 1 capacityMost count some most (omega arith) in
       let rest = plain bin ++ comma ∷ plain count in
       query-says name n (Trace form) means (Query (query.Trace form t bin count)) (plain t ++ comma ∷ rest)
       (rw (length-append, length-append) (omega arith))

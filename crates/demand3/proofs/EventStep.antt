@@ -8,7 +8,7 @@ use mathlib.Core.List.{List}
 use lib.Dec.{leb, eqb}
 use borrow.Author.Tests.{leb-true}
 use Rattle.settings.specs.Table.{entries, table, fmod, harm, rowOf, tstr, valueOf}
-use Rattle.settings.specs.Frequency.{hertz, isInternal, inForce, detectionOf, frequencyInRange}
+use Rattle.settings.specs.Frequency.{isInternal, inForce, detectionOf, frequencyInRange}
 use Rattle.settings.specs.Valid.{valueValid, valuesValid}
 use Rattle.settings.specs.declared.Settings.{Settings}
 use Rattle.settings.proofs.Every.{every-at}
@@ -30,10 +30,11 @@ use Rattle.extreme_courses.specs.Extremes.{measuredHigh, triggeredHigh}
 use Rattle.demand3.proofs.SameButTimeConstant.{Alike, alike-then, alike-value, alike-sampling, crossed-settings, crossed-acquisition}
 use Rattle.demand3.proofs.StorageOrder.{Low, low-ticked, low-event, reset-started, ticked-reset, triggered-reset}
 use Rattle.demand3.proofs.Simulation.{Between}
+use Rattle.settings.specs.Limits.{detectionLimit}
 
 -- the high course has the highest frequency that can be taken, and with TSTR 1 it has begun
 pub record Ready (x : Settings) (hi : Acquisition) : Type 0 where
-  pub highest : isInternal x ≡ false → (f : ℕ) → valueOf x harm * f ≤ hertz 102000 → f ≤ hi .external
+  pub highest : isInternal x ≡ false → (f : ℕ) → valueOf x harm * f ≤ detectionLimit → f ≤ hi .external
   pub begun : eqb (valueOf x tstr) triggerStarts ≡ true → isReset (hi .storage) ≡ false
 
 -- HARM is 1 to 19999
@@ -44,30 +45,30 @@ harm-kept x k =
     let q = and-eq-true-iff (leb 1 (valueOf x harm)) _ .0 p in
     (leb-true 1 (valueOf x harm) (q .0), leb-true (valueOf x harm) 19999 (and-eq-true-iff (leb (valueOf x harm) 19999) _ .0 (q .1) .0))
 
-below-highest : (h f : ℕ) → 1 ≤ h → h * f ≤ hertz 102000 → f ≤ hertz 102000 / h
+below-highest : (h f : ℕ) → 1 ≤ h → h * f ≤ detectionLimit → f ≤ detectionLimit / h
 below-highest h f a p = (le-div-iff-mul-le a) .1 (rw (mul-comm h f) at p)
 
 -- ---- the high course
 
 module _ (capacity : ℕ) (x : Settings) (m lo hi : Acquisition) (k : Between capacity x m lo hi) where
   measured : Between capacity x m lo (measuredHigh x hi)
-      × (isInternal x ≡ false → (f : ℕ) → valueOf x harm * f ≤ hertz 102000 → f ≤ measuredHigh x hi .external)
+      × (isInternal x ≡ false → (f : ℕ) → valueOf x harm * f ≤ detectionLimit → f ≤ measuredHigh x hi .external)
   unfolding measuredHigh detectionOf inForce
   measured = by (isInternal x) refl where
     raised : Acquisition
-    raised = atFrequency (hertz 102000 / valueOf x harm) hi
+    raised = atFrequency (detectionLimit / valueOf x harm) hi
 
     by : (t : Bool) → isInternal x ≡ t
         → Between capacity x m lo (cond t hi raised)
-        × (t ≡ false → (f : ℕ) → valueOf x harm * f ≤ hertz 102000 → f ≤ cond t hi raised .external)
+        × (t ≡ false → (f : ℕ) → valueOf x harm * f ≤ detectionLimit → f ≤ cond t hi raised .external)
     by true e = (k, λ z. absurd (false≢true (sym z)))
     by false e =
-        let old : valueOf x harm * hi .external ≤ hertz 102000 = rw e at (k .limit) in
+        let old : valueOf x harm * hi .external ≤ detectionLimit = rw e at (k .limit) in
         let one = harm-kept x (k .kept) .0 in
         let over = below-highest (valueOf x harm) (hi .external) one old in (
           record {
             kept = k .kept;
-            limit = rw e (mul-div-le (hertz 102000) (valueOf x harm));
+            limit = rw e (mul-div-le detectionLimit (valueOf x harm));
             external = omega (arith, k .external, over);
             low = k .low;
             high = k .high;
@@ -158,7 +159,7 @@ module _ (model : Model) (x : Settings) (lo hi : Acquisition) (ready : Ready x h
     taken e t =
         ready .highest (rw (← alike-value (k .alike) fmod (λ q. omega arith)) e) f
         (rw (← alike-value (k .alike) harm (λ q. omega arith))
-        (leb-true (valueOf (s .settings) harm * f) (hertz 102000) (unfold takesFrequency in and-eq-true-iff (frequencyInRange f) _ .0 t .1)))
+        (leb-true (valueOf (s .settings) harm * f) detectionLimit (unfold takesFrequency in and-eq-true-iff (frequencyInRange f) _ .0 t .1)))
 
     by : (a b : Bool) → isInternal (s .settings) ≡ a → takesFrequency s f ≡ b
         → Within model x lo hi

@@ -12,7 +12,7 @@ use Rattle.outcome.specs.declared.Refusal.{Refusal}
 use Rattle.outcome.specs.declared.Refusal.the-variants.{NotAllowed, NoRoom, LongLine}
 use Rattle.outcome.specs.Answer.{isNoRoom, drops}
 use Rattle.settings.specs.Table.{entries, freq, send, nextEntry, valueOf}
-use Rattle.settings.specs.Frequency.{hertz, isInternal, inForce}
+use Rattle.settings.specs.Frequency.{isInternal, inForce}
 use Rattle.settings.specs.Valid.{valueValid, valuesValid}
 use Rattle.settings.proofs.Every.{every-at}
 use Rattle.storage.specs.Storage.{holdsOf}
@@ -57,10 +57,13 @@ use Rattle.invariant.proofs.States.{states-stay}
 use Rattle.demand3.specs.Course.{World, afterLine, roomTooSmall}
 use Rattle.demand3.proofs.Soundness.{Open, open-valid}
 use Rattle.demand3.proofs.Sizes.{Sized, register-byte, enable-byte, after-sized, marked-sized}
+use Rattle.settings.specs.Limits.{frequencyLow, frequencyHigh, capacityLeast, capacityMost}
+use Rattle.state.specs.Valid.{serialMost}
+use Rattle.queue.specs.Queue.{lineLimit}
 
 -- ---- a reply
 
--- the longest one: 16383 points of four bytes each
+-- the longest one: capacityMost points of four bytes each
 abbrev most : ℕ
 most = 65532
 
@@ -83,8 +86,8 @@ module _ (s : State) (a : validState s ≡ true) (k : Sized s) where
   external-small : s .acquisition .external < 2 ^ 32
   external-small =
       let f = s .acquisition .external in
-      let p = and-eq-true-iff (leb 10 f) (leb f (hertz 102000)) .0 (sound s a .tuned .external) in
-      omega (arith, leb-true f (hertz 102000) (p .1))
+      let p = and-eq-true-iff (leb frequencyLow f) (leb f frequencyHigh) .0 (sound s a .tuned .external) in
+      omega (arith, leb-true f frequencyHigh (p .1))
 
   now-small : (e : ℕ) → valueNow s e < 2 ^ 32
   unfolding valueNow inForce
@@ -95,14 +98,14 @@ module _ (s : State) (a : validState s ≡ true) (k : Sized s) where
     by true false = external-small
     by false u = value-small e
 
-  held-small : s .acquisition .storage .held ≤ 16383
+  held-small : s .acquisition .storage .held ≤ capacityMost
   unfolding installationValid
   held-small =
       let p = facts (s .acquisition .storage) (s .installation .capacity) (valueOf (s .settings) send) (sound s a .stored) .held in
-      let u = and-eq-true-iff (leb (s .installation .serial) 99999) _ .0 (sound s a .installation) in
+      let u = and-eq-true-iff (leb (s .installation .serial) serialMost) _ .0 (sound s a .installation) in
       let v = and-eq-true-iff (leb (s .installation .port) 1) _ .0 (u .1) in
-      let w = and-eq-true-iff (leb 1 (s .installation .capacity)) (leb (s .installation .capacity) 16383) .0 (v .1) in
-      omega (arith, leb-true (s .installation .capacity) 16383 (w .1))
+      let w = and-eq-true-iff (leb capacityLeast (s .installation .capacity)) (leb (s .installation .capacity) capacityMost) .0 (v .1) in
+      omega (arith, leb-true (s .installation .capacity) capacityMost (w .1))
 
   status-small : (waiting : Bool) (which : Register) → statusOf s waiting which < 2 ^ 32
   unfolding statusOf statusNow
@@ -237,7 +240,7 @@ run-fits room (t ∷ ts) l a k e h =
     (λ (x : Line). (x .report .dropped ≡ false) × Sized (x .after))
     (g .kept) (run-fits room ts next (g .valid) (g .sized) (g .kept) (omega (arith, g .short)))
 
--- a line of at most 256 bytes has at most 257 commands: room for that many of the longest replies
+-- a line of at most lineLimit bytes has at most 257 commands: room for that many of the longest replies
 abbrev pub enough : ℕ
 enough = 257 * most
 
@@ -245,7 +248,7 @@ module _ (l : List ℕ) (w : World) (o : Open w) (k : Sized (w .core .state)) wh
   ran : Line
   ran = lineOf enough l (w .core .state) (w .one) (w .two)
 
-  short-fits : length l ≤ 256 → (ran .report .dropped ≡ false) × Sized (ran .after)
+  short-fits : length l ≤ lineLimit → (ran .report .dropped ≡ false) × Sized (ran .after)
   unfolding ran lineOf
   short-fits h =
       run-fits enough (textsOf l) (startLine (w .core .state) (w .one) (w .two)) (open-valid w o) k refl
@@ -253,16 +256,16 @@ module _ (l : List ℕ) (w : World) (o : Open w) (k : Sized (w .core .state)) wh
 
   pub room-enough : roomTooSmall enough l w ≡ false
   unfolding roomTooSmall ran
-  room-enough = by (leb (length l) 256) refl where
-    by : (t : Bool) → leb (length l) 256 ≡ t → cond t (ran .report .dropped) false ≡ false
-    by true e = short-fits (leb-true (length l) 256 e) .0
+  room-enough = by (leb (length l) lineLimit) refl where
+    by : (t : Bool) → leb (length l) lineLimit ≡ t → cond t (ran .report .dropped) false ≡ false
+    by true e = short-fits (leb-true (length l) lineLimit e) .0
     by false e = refl
 
   -- a line that is too long sets its bit
   pub line-sized : Sized (afterLine enough l w .core .state)
   unfolding afterLine lineCall guarded wholeLine wholeEnd lineEnd ran
-  line-sized = rw o (by (leb (length l) 256) refl) where
-    by : (t : Bool) → leb (length l) 256 ≡ t →
+  line-sized = rw o (by (leb (length l) lineLimit) refl) where
+    by : (t : Bool) → leb (length l) lineLimit ≡ t →
         Sized (lineEnd (cond t ending.Line ending.TooLong) enough l (w .core .state) (w .one) (w .two) .after)
-    by true e = short-fits (leb-true (length l) 256 e) .1
+    by true e = short-fits (leb-true (length l) lineLimit e) .1
     by false e = marked-sized LongLine (w .core .state) k

@@ -7,7 +7,7 @@ use mathlib.Core.Path.{_≡_, refl, sym, _∙_}
 use lib.Dec.{leb, eqb}
 use borrow.Author.Tests.{leb-true, le-leb, ltb-false, le-ltb, not-true}
 use Rattle.settings.specs.Table.{fmod, freq, harm, oflt, send, startSettings, nextEntry, valueOf, withValue}
-use Rattle.settings.specs.Frequency.{hertz, isInternal, inForce, detectionOf}
+use Rattle.settings.specs.Frequency.{isInternal, inForce, detectionOf}
 use Rattle.settings.specs.Frequency.{withinLimit, above200, timeConstantStands, externalStart}
 use Rattle.settings.specs.Valid.{valuesValid}
 use Rattle.settings.specs.declared.Settings.{Settings}
@@ -33,11 +33,12 @@ use Rattle.precondition.proofs.Limit.{limit-after}
 use Rattle.effect.specs.Effect.{withPair, setIn, restoredBy, settingsAfter, storageBy, storageAfter, externalBy, externalAfter, acquisitionAfter}
 use Rattle.invariant.proofs.Storable.{Storable}
 use Rattle.demand3.proofs.StorageOrder.{Low, low-emptied, low-started, low-paused, low-triggered, reset-started, reset-paused, triggered-reset}
+use Rattle.settings.specs.Limits.{detectionLimit, longLimit}
 
 -- the acquisition m, that of the low course and that of the high one, under the settings x
 pub record Between (capacity : ℕ) (x : Settings) (m lo hi : Acquisition) : Type 0 where
   pub kept : valuesValid x ≡ true
-  pub limit : detectionOf x (hi .external) ≤ hertz 102000
+  pub limit : detectionOf x (hi .external) ≤ detectionLimit
   pub external : m .external ≤ hi .external
   pub low : Low capacity (lo .storage) (m .storage)
   pub high : isReset (hi .storage) ≡ true → isReset (m .storage) ≡ true
@@ -53,13 +54,13 @@ unfolding detectionOf inForce
 detection-mono x f g h = mul-le-mul-left (valueOf x harm) (cond-mono (isInternal x) (valueOf x freq) f g h)
 
 within-mono : (x : Settings) (f g : ℕ) → f ≤ g → withinLimit (detectionOf x g) ≡ true → withinLimit (detectionOf x f) ≡ true
-within-mono x f g h e = le-leb (detectionOf x f) (hertz 102000) (omega (arith, detection-mono x f g h, leb-true (detectionOf x g) (hertz 102000) e))
+within-mono x f g h e = le-leb (detectionOf x f) detectionLimit (omega (arith, detection-mono x f g h, leb-true (detectionOf x g) detectionLimit e))
 
 stands-mono : (t : Bool) (a b : ℕ) → a ≤ b → t || not (above200 b) ≡ true → t || not (above200 a) ≡ true
 stands-mono true a b h e = refl
 stands-mono false a b h e =
-    let l = ltb-false (hertz 200) b (not-true (above200 b) e) in
-    rw (le-ltb (hertz 200) a (omega arith)) refl
+    let l = ltb-false longLimit b (not-true (above200 b) e) in
+    rw (le-ltb longLimit a (omega arith)) refl
 
 -- ---- a setting
 
@@ -110,7 +111,7 @@ reset-goes capacity x m lo hi = (refl, start-between capacity)
 
 module _ (capacity : ℕ) (x : Settings) (m lo hi : Acquisition) (k : Between capacity x m lo hi) where
   -- other settings, at which the high course keeps the limit
-  with-settings : (y : Settings) → valuesValid y ≡ true → detectionOf y (hi .external) ≤ hertz 102000 → Between capacity y m lo hi
+  with-settings : (y : Settings) → valuesValid y ≡ true → detectionOf y (hi .external) ≤ detectionLimit → Between capacity y m lo hi
   with-settings y p q = record { kept = p; limit = q; external = k .external; low = k .low; high = k .high }
 
   with-storage : (m′ lo′ hi′ : Storage) → Low capacity lo′ m′ → (isReset hi′ ≡ true → isReset m′ ≡ true)

@@ -32,6 +32,7 @@ use Rattle.demand3.proofs.EventStep.{Ready, Within, event-ready, event-
 use Rattle.demand3.proofs.FirstRefusal.{not-passed, not-done, found-here, found-later, Passes, passes-here, passes-next}
 use Rattle.demand3.proofs.Commands.{Sim, run-passed, run-earlier}
 use Rattle.demand3.proofs.LongLines.{passed-short, refused-split}
+use Rattle.queue.specs.Queue.{lineLimit}
 
 -- neither 11 nor 9 refuses a call
 abbrev pub Open : World → Type 0
@@ -63,11 +64,11 @@ module _ (w : World) (o : Open w) where
       (lineIn room l w .report .answer ≡ ran .report .answer) × (afterLine room l w .core .state ≡ ran .after)
       × (roomTooSmall room l w ≡ ran .report .dropped)
   unfolding afterLine lineCall guarded wholeLine wholeEnd lineEnd roomTooSmall
-  line-short room l e = rw (o, le-leb (length l) 256 (ltb-false 256 (length l) e)) (refl, refl, refl)
+  line-short room l e = rw (o, le-leb (length l) lineLimit (ltb-false lineLimit (length l) e)) (refl, refl, refl)
 
   pub line-long : (room : ℕ) (l : List ℕ) → lineTooLong l ≡ true → lineIn room l w .report .answer ≡ Refused LongLine 0
   unfolding lineCall guarded wholeLine wholeEnd lineEnd
-  line-long room l e = rw (o, lt-leb (length l) 256 (ltb-true 256 (length l) e)) refl
+  line-long room l e = rw (o, lt-leb (length l) lineLimit (ltb-true lineLimit (length l) e)) refl
 
 pub events-open : (es : List Event) (w : World) → Open w → Open (afterEvents es w)
 unfolding afterEvents

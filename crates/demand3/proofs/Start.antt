@@ -20,6 +20,8 @@ use Rattle.invariant.specs.Representable.{Every, Word, Byte, ModuleFits}
 use Rattle.invariant.proofs.Bytes.{all}
 use Rattle.demand3.specs.Course.{WorldFits, StartAnswers, Startable, freshWorld}
 use Rattle.demand3.proofs.FirstRefusal.{not-done}
+use Rattle.settings.specs.Limits.{capacityLeast, capacityMost}
+use Rattle.queue.specs.Queue.{lineLimit}
 
 -- ---- the start's answer
 
@@ -84,8 +86,8 @@ module _ (model : Model) (fits : modelFits model ≡ true) where
   small : model .capacity < 2 ^ 32
   small = omega (
     arith,
-    leb-true (model .capacity) 16383
-        (and-eq-true-iff (leb 1 (model .capacity)) (leb (model .capacity) 16383) .0 fits .1),
+    leb-true (model .capacity) capacityMost
+        (and-eq-true-iff (leb capacityLeast (model .capacity)) (leb (model .capacity) capacityMost) .0 fits .1),
   )
 
   module-fits : ModuleFits (freshModule (freshInstallation model))
@@ -105,7 +107,7 @@ module _ (model : Model) (fits : modelFits model ≡ true) where
               latest = (omega arith, omega arith);
               installation = (omega arith, omega arith, small);
             };
-        queue = record { full = refl; bytes = every-replicate Byte 0 (omega arith) 256; len = omega arith };
+        queue = record { full = refl; bytes = every-replicate Byte 0 (omega arith) lineLimit; len = omega arith };
       }
 
   pub fresh-fits : WorldFits (freshWorld model)

@@ -13,7 +13,7 @@ use Rattle.outcome.specs.declared.Refusal.{Refusal}
 use Rattle.outcome.specs.declared.Refusal.the-variants.{NotAllowed, NoReset}
 use Rattle.outcome.specs.declared.Outcome.the-variants as outcome
 use Rattle.settings.specs.Table.{fmod, harm, valueOf}
-use Rattle.settings.specs.Frequency.{isInternal, hertz}
+use Rattle.settings.specs.Frequency.{isInternal}
 use Rattle.settings.specs.Valid.{valuesValid}
 use Rattle.settings.specs.declared.Settings.{Settings}
 use Rattle.command.specs.Parsed.{parsedOf}
@@ -49,6 +49,7 @@ use Rattle.demand3.proofs.FirstRefusal.{not-passed, not-done, answer-pa
 use Rattle.demand3.proofs.Commands.{kind-done, valid-done, effectIn, run-rest, step-passed, step-refused}
 use Rattle.demand3.proofs.Commands.{run-refused}
 use Rattle.demand3.proofs.Commands.{count-step}
+use Rattle.settings.specs.Limits.{detectionLimit}
 
 -- which of the two
 pub data Side : Type 0 where
@@ -225,7 +226,7 @@ run-refuses model b n (t ∷ ts) r p e z =
 
 -- the highest frequency that is taken at these settings
 abbrev pub highest : Settings → ℕ
-highest x = hertz 102000 / valueOf x harm
+highest x = detectionLimit / valueOf x harm
 
 unfoldable pub eventsOf : Side → Extremes → List Event
 eventsOf low b = []
@@ -235,7 +236,7 @@ eventsOf high b = Measured (highest (b .settings)) ∷ Trigger ∷ []
 pub events-fit : (d : Side) (b : Extremes) → Every EventFits (eventsOf d b)
 unfolding eventsOf
 events-fit low b = tt
-events-fit high b = (omega (arith, div-le-self (hertz 102000) (valueOf (b .settings) harm)), (tt, tt))
+events-fit high b = (omega (arith, div-le-self detectionLimit (valueOf (b .settings) harm)), (tt, tt))
 
 module _ (x : Settings) (s : State) (a : Alike (s .settings) x) (k : valuesValid (s .settings) ≡ true) where
   takes-highest : takesFrequency s (highest x) ≡ true
@@ -244,13 +245,13 @@ module _ (x : Settings) (s : State) (a : Alike (s .settings) x) (k : valuesValid
       let same = alike-value a harm (λ q. omega arith) in
       let one : 1 ≤ valueOf x harm = rw same at (harm-kept (s .settings) k .0) in
       let most : valueOf x harm ≤ 19999 = rw same at (harm-kept (s .settings) k .1) in
-      let enough : 10 * valueOf x harm ≤ hertz 102000 = omega arith in
+      let enough : 10 * valueOf x harm ≤ detectionLimit = omega arith in
       let least : 10 ≤ highest x = (le-div-iff-mul-le one) .1 enough in
       rw (
         same,
         le-leb 10 (highest x) least,
-        le-leb (highest x) (hertz 102000) (div-le-self (hertz 102000) (valueOf x harm)),
-        le-leb (valueOf x harm * highest x) (hertz 102000) (mul-div-le (hertz 102000) (valueOf x harm)),
+        le-leb (highest x) detectionLimit (div-le-self detectionLimit (valueOf x harm)),
+        le-leb (valueOf x harm * highest x) detectionLimit (mul-div-le detectionLimit (valueOf x harm)),
       )
       refl
 

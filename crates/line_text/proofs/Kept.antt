@@ -8,6 +8,7 @@ use native.Mathlib.Numerals.{add-one}
 use lib.ListN.{length, take, drop, set, getD, drop-of-length-le}
 use lib.Seq.{drop-cons, take-suc-set, take-append-le, take-all, length-take-le}
 use Rattle.line_text.specs.Clean.{isDropped, capital, cleaned}
+use Rattle.line_text.specs.Clean.{lineLimit}
 
 module _ (line : List ℕ) (i : ℕ) (h : i < length line) where
   pub cleaned-drop : isDropped (getD line i 0) ≡ true → cleaned (drop i line) ≡ cleaned (drop (i + 1) line)
@@ -24,16 +25,16 @@ unfolding cleaned
 cleaned-end line i h = rw (drop-of-length-le line {i = i} h)
 
 -- one byte more, kept or past the room
-module _ (bytes : List ℕ) (len b : ℕ) (rest : List ℕ) (long : length bytes ≡ 256) where
-  pub kept-more : len < 256 →
-      take 256 (take (len + 1) (set bytes len b) ++ rest) ≡ take 256 (take len bytes ++ b ∷ rest)
+module _ (bytes : List ℕ) (len b : ℕ) (rest : List ℕ) (long : length bytes ≡ lineLimit) where
+  pub kept-more : len < lineLimit →
+      take lineLimit (take (len + 1) (set bytes len b) ++ rest) ≡ take lineLimit (take len bytes ++ b ∷ rest)
   kept-more h = rw (add-one len, take-suc-set bytes len b (omega arith), append-assoc)
 
-  pub kept-full : len ≤ 256 → 256 ≤ len → take 256 (take len bytes ++ rest) ≡ take 256 (take len bytes ++ b ∷ rest)
+  pub kept-full : len ≤ lineLimit → lineLimit ≤ len → take lineLimit (take len bytes ++ rest) ≡ take lineLimit (take len bytes ++ b ∷ rest)
   kept-full g h =
-      let l : 256 ≤ length (take len bytes) = omega (arith, length-take-le len bytes (omega arith)) in
-      rw (take-append-le 256 (take len bytes) rest l, take-append-le 256 (take len bytes) (b ∷ rest) l)
+      let l : lineLimit ≤ length (take len bytes) = omega (arith, length-take-le len bytes (omega arith)) in
+      rw (take-append-le lineLimit (take len bytes) rest l, take-append-le lineLimit (take len bytes) (b ∷ rest) l)
 
-pub kept-all : (bytes : List ℕ) (len : ℕ) → length bytes ≡ 256 → len ≤ 256 →
-    take 256 (take len bytes ++ []) ≡ take len bytes
-kept-all bytes len long h = rw (append-nil (take len bytes)) (take-all 256 (take len bytes) (omega (arith, length-take-le len bytes (omega arith))))
+pub kept-all : (bytes : List ℕ) (len : ℕ) → length bytes ≡ lineLimit → len ≤ lineLimit →
+    take lineLimit (take len bytes ++ []) ≡ take len bytes
+kept-all bytes len long h = rw (append-nil (take len bytes)) (take-all lineLimit (take len bytes) (omega (arith, length-take-le len bytes (omega arith))))

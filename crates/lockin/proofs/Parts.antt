@@ -62,15 +62,15 @@ guarded-queue report (outcome.Refused r) step m one two = refl
 
 -- ---- lengths
 
--- a line's end among at most 256 bytes
-within : (l : List ℕ) (n : ℕ) → length l ≤ 256 → take (min n 256) l ≡ take n l
-within l n h = by (leb n 256) refl where
-  by : (t : Bool) → leb n 256 ≡ t → take (min n 256) l ≡ take n l
-  by true e = let same : min n 256 ≡ n = omega (arith, leb-true n 256 e) in rw same
+-- a line's end among at most lineLimit bytes
+within : (l : List ℕ) (n : ℕ) → length l ≤ lineLimit → take (min n lineLimit) l ≡ take n l
+within l n h = by (leb n lineLimit) refl where
+  by : (t : Bool) → leb n lineLimit ≡ t → take (min n lineLimit) l ≡ take n l
+  by true e = let same : min n lineLimit ≡ n = omega (arith, leb-true n lineLimit e) in rw same
   by false e =
-      let past = leb-false n 256 e in
-      let all : min n 256 ≡ 256 = omega arith in
-      rw all (take-all 256 l h ∙ sym (take-all n l (omega arith)))
+      let past = leb-false n lineLimit e in
+      let all : min n lineLimit ≡ lineLimit = omega arith in
+      rw all (take-all lineLimit l h ∙ sym (take-all n l (omega arith)))
 
 -- a stored byte leaves as many bytes as there were
 pub stored-length : (stores : Bool) (at b : ℕ) (bytes : List ℕ) → length (bytesWith stores at b bytes) ≡ length bytes
@@ -83,22 +83,22 @@ stored-length stores at b bytes = by (stores && ltb at lineLimit) where
 
 -- its text up to the line limit does what all of it does
 whole-end : (room : ℕ) (text : List ℕ) (s : State) (one two : List ℕ) →
-    lineEnd (wholeEnd (length text)) room (take (min (length text) 256) text) s one two
+    lineEnd (wholeEnd (length text)) room (take (min (length text) lineLimit) text) s one two
     ≡ lineEnd (wholeEnd (length text)) room text s one two
 unfolding wholeEnd lineEnd
-whole-end room text s one two = by (leb (length text) 256) refl where
-  by : (t : Bool) → leb (length text) 256 ≡ t →
-      lineEnd (wholeEnd (length text)) room (take (min (length text) 256) text) s one two
+whole-end room text s one two = by (leb (length text) lineLimit) refl where
+  by : (t : Bool) → leb (length text) lineLimit ≡ t →
+      lineEnd (wholeEnd (length text)) room (take (min (length text) lineLimit) text) s one two
       ≡ lineEnd (wholeEnd (length text)) room text s one two
   by true e =
-      let same = within text (length text) (leb-true (length text) 256 e) in
+      let same = within text (length text) (leb-true (length text) lineLimit e) in
       rw (same ∙ take-all (length text) text (omega arith))
   by false e = rw e
 
 -- the code's parts, each as its function says, answer as the line's call does
 pub line-answers : (room : ℕ) (text : List ℕ) (m : Module) (one two : List ℕ) {o : Outcome} {e : LineEnd} {end : ℕ}
     {r : StateResult} {one′ two′ new old : List ℕ} →
-    o ≡ guardOf m (length one) (length two) → e ≡ wholeEnd (length text) → end ≡ min (length text) 256 →
+    o ≡ guardOf m (length one) (length two) → e ≡ wholeEnd (length text) → end ≡ min (length text) lineLimit →
     Meets resultOf (guarded refusedWhole o (lineEnd e room (take end text) (m .state) one two) (m .state) one two)
     r one′ two′ new old →
     Answers (lineCall room text m one two) (calledWith (m .queue) r) one′ two′ new old
@@ -128,10 +128,10 @@ module _ (room b : ℕ) (mark : Bool) (m : Module) (one two : List ℕ) (step : 
 
 -- the code's parts, each as its function says, answer as the byte's call does
 pub byte-answers : (room b : ℕ) (mark : Bool) (m : Module) (one two : List ℕ) (step : QueueStep) {o : Outcome}
-    {bytes : List ℕ} {end : ℕ} {r : StateResult} {one′ two′ new old : List ℕ} → length (m .queue .bytes) ≡ 256 →
+    {bytes : List ℕ} {end : ℕ} {r : StateResult} {one′ two′ new old : List ℕ} → length (m .queue .bytes) ≡ lineLimit →
     o ≡ guardOf m (length one) (length two) →
     GuardedStep o (m .queue .len) (m .queue .discarding) (m .state .installation .port) b mark step →
-    bytes ≡ bytesWith (step .stores) (m .queue .len) b (m .queue .bytes) → end ≡ min (step .line) 256 →
+    bytes ≡ bytesWith (step .stores) (m .queue .len) b (m .queue .bytes) → end ≡ min (step .line) lineLimit →
     Meets resultOf
     (guarded refusedWhole o (lineEnd (step .ending) room (take end bytes) (m .state) one two) (m .state) one two)
     r one′ two′ new old →
@@ -140,7 +140,7 @@ pub byte-answers : (room b : ℕ) (mark : Bool) (m : Module) (one two : List ℕ
 unfolding byteCall
 byte-answers room b mark m one two step {o = o} {bytes = bytes} long guard stepped stored end h =
     let same = stored-length (step .stores) (m .queue .len) b (m .queue .bytes) in
-    let many : length bytes ≡ 256 = rw stored same ∙ long in
+    let many : length bytes ≡ lineLimit = rw stored same ∙ long in
     let text = within bytes (step .line) (omega arith) in
     rw (← guard, guarded-byte room b mark m one two step o stepped, ← stored)
     (answers (queueOf bytes (step .len) (step .discarding)) (rw (end, text) at h))

@@ -34,6 +34,7 @@ use Rattle.invariant.proofs.Meanings.{Name}
 use Rattle.invariant.proofs.OneCommand.{Says}
 use Rattle.demand2.proofs.Parsing.{trace-asked}
 use Rattle.points.proofs.Slots.{bin-mod}
+use Rattle.settings.specs.Limits.{capacityMost}
 
 -- ---- points from a bin on
 
@@ -94,7 +95,7 @@ unfolding meaningIn
 trace-means Words = refl
 trace-means Floats = refl
 
-pub says-trace : (form : Form) (t bin count : ℕ) → 1 ≤ t → t ≤ 2 → bin ≤ 16383 → 1 ≤ count → count ≤ 16383 →
+pub says-trace : (form : Form) (t bin count : ℕ) → 1 ≤ t → t ≤ 2 → bin ≤ capacityMost → 1 ≤ count → count ≤ capacityMost →
     Says (traceQuery form t bin count) (Query (query.Trace form t bin count))
 says-trace form t bin count = trace-asked (traceName form) (trace-name form) form t bin count (trace-means form)
 

@@ -7,9 +7,10 @@ use borrow.Author.Needs.{needs}
 use Rattle.lockin.proofs.Parts.{stored-length, byte-answers}
 use Rattle.lockin.proofs.take_byte.Statement.{statement}
 use Rattle.lockin.proofs.take_byte.Tie as tie
+use Rattle.queue.specs.Queue.{lineLimit}
 
 -- the queue of a module has room for 256 bytes
-long : (start : tie.Start) → length (start .args .m .queue .bytes) ≡ 256
+long : (start : tie.Start) → length (start .args .m .queue .bytes) ≡ lineLimit
 long start = search needs
 
 part-end-guarded-end : tie.Need-part-end-guarded-end
@@ -18,7 +19,7 @@ part-end-guarded-end c =
     let step = ending .before .before .before in
     let start = step .before .before .before .before .before .before .before .before in
     let m = start .args .m in
-    let stored : length (ending .before .store .last .0) ≡ 256 =
+    let stored : length (ending .before .store .last .0) ≡ lineLimit =
     rw (ending .before .store .ensures)
     (stored-length (step .step-guarded .result .stores) (m .queue .len) _ (m .queue .bytes) ∙ long start) in
     omega (arith, ending .end-index .ensures)
