@@ -2,9 +2,9 @@
  *
  * Link with libc_interface.a, which `rt staticlib c_interface` writes to target/staticlib/.
  *
- * The check's own proofs are in Rattle (crates/c_interface, crates/script, crates/extreme_courses,
- * crates/courses). They cover neither this header nor a caller in C: that script has length
- * bytes is the caller's part.
+ * The check's own proofs are in Rattle (crates/c_interface, crates/script,
+ * crates/extreme_courses, crates/demand3). They cover neither this header nor a caller in C:
+ * that script has length bytes is the caller's part.
  */
 #ifndef GLAZEOTTER_H
 #define GLAZEOTTER_H

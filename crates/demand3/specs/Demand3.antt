@@ -3,7 +3,7 @@
 --
 -- Neither a check that always says no nor one that always says yes meets this: a script of `*RST` alone passes, and an
 -- empty one does not (crates/examples/specs/Scripts.antt). As wrong programs these two are always_no and always_yes of
--- crates/script/must-fail. Wrong statements of demand 3 are in crates/courses/must-fail.
+-- crates/script/must-fail. Wrong statements of demand 3 are in crates/demand3/must-fail.
 use Prim.Native.Nat.{ℕ, zero, suc, _+_, _≤_, _<_}
 use mathlib.Core.Bool.{Bool, true, false}
 use mathlib.Core.Path.{_≡_}

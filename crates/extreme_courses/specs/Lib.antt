@@ -1,4 +1,4 @@
--- The definitions that the contracts of `two_courses` cite.
+-- The definitions that the contracts of `extreme_courses` cite.
 pub mod Model
 pub mod Extremes
 pub mod Parts

@@ -129,7 +129,7 @@ fn step(p: Progress, text: &[u8], one: &mut [u32], two: &mut [u32], reply: &mut 
     requires { ⌜ (p .at ≤ length (now reply)) × (p .count < 1000) ⌝ }
     ensures { λ r. ⌜ Meets progressOf
         (afterCommand (length (now (reply .entry))) (now (text .entry))
-        (lineAt p (now (one .entry)) (now (two .entry)) (now (reply .entry))))
+        (lineReached p (now (one .entry)) (now (two .entry)) (now (reply .entry))))
         r (now (one .exit)) (now (two .exit)) (now (reply .exit)) (now (reply .entry)) ⌝ }
     ensures { λ r. ⌜ (p .at ≤ r .at) × (r .at ≤ length (now (reply .exit))) × (r .count ≡ p .count + 1) ⌝ }
 {

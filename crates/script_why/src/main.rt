@@ -25,8 +25,8 @@ fn reply_buffer() -> [u8; ROOM]
 }
 
 // Writes the course without events where that one is refused, and else the one with events. A course from a fresh
-// module is refused there (`FirstRefused`, crates/courses/specs/Demand3.antt), and its events are those of one of these
-// two (crates/courses/proofs/Reached.antt).
+// module is refused there (`FirstRefused`, crates/demand3/specs/Demand3.antt), and its events are those of one of these
+// two (crates/demand3/proofs/Completeness.antt).
 fn print_course(script: &[u8], line: usize, place: u32, one: &mut [u32], two: &mut [u32]) {
     let mut reply = reply_buffer();
     let tried = Course {
