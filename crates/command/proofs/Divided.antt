@@ -8,6 +8,7 @@ use native.Mathlib.Numerals.{add-one}
 use lib.Dec.{leb, ltb, eqb}
 use lib.ListN.{length, take, drop}
 use borrow.Author.Tests.{lt-ltb, le-ltb, leb-true, leb-false, ltb-true, ltb-false, eqb-true, eqb-false}
+use Rattle.laws.proofs.Tests.{never}
 use Rattle.split.specs.Divide.{span, before, after, parts, onHead}
 use Rattle.split.proofs.Span.{span-le, parts-more, parts-last, rest-from}
 use Rattle.number.specs.Number.{isNumber}
@@ -22,9 +23,6 @@ use Rattle.command.specs.declared.TwoNumbers.{TwoNumbers}
 use Rattle.command.specs.declared.TwoNumbers.the-variants as pair
 use Rattle.command.specs.declared.ThreeNumbers.{ThreeNumbers}
 use Rattle.command.specs.declared.ThreeNumbers.the-variants as triple
-
-never : {A : Type 0} → _≡_ {A = ℕ} 0 1 → A
-never e = absurd (omega arith)
 
 -- text that is divided has a first part
 abbrev Some : List (List ℕ) → Type 0

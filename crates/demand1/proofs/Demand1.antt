@@ -7,6 +7,7 @@ use mathlib.Core.Bool.{Bool, true, false, cond, _&&_, _||_}
 use mathlib.Core.List.{List}
 use lib.Dec.{leb, ltb, eqb}
 use lib.ListN.{length}
+use Rattle.laws.proofs.Tests.{never}
 use Rattle.outcome.specs.declared.Refusal.{Refusal}
 use Rattle.outcome.specs.declared.Refusal.the-variants.{LongLine, BadEvent, BadTraces, BadStart, BadState}
 use Rattle.outcome.specs.declared.Outcome.{Outcome}
@@ -39,7 +40,7 @@ use Rattle.demand1.specs.Demand1.{FirstRefusedCommand, RunsLine, receive
 use Rattle.demand1.specs.Demand1.{RefusedCall, emptiedAt, RefusedEvent, OfStart, RefusedStart, RefusedPoll}
 use Rattle.demand1.specs.Demand1.{RefusedChangesNothing}
 use Rattle.demand1.specs.Demand1 as demand
-use Rattle.demand1.proofs.OneByOne.{marked-only, never, command-refused, step-refused, commands-are, answering}
+use Rattle.demand1.proofs.OneByOne.{marked-only, command-refused, step-refused, commands-are, answering}
 use Rattle.invariant.proofs.OneCommand.{open-call}
 
 -- refusals 11 and 9, by the tests that decide them

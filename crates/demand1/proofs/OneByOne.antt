@@ -9,6 +9,7 @@ use mathlib.Core.List.{List, [], _∷_, _++_, append-nil}
 use lib.Bits.{bitOr}
 use lib.ListN.{length, getD}
 use borrow.Author.Tests.{eqb-true, eqb-false}
+use Rattle.laws.proofs.Tests.{never}
 use Rattle.outcome.specs.Code.{codeOf}
 use Rattle.outcome.specs.declared.Refusal.{Refusal}
 use Rattle.outcome.specs.declared.Refusal.the-variants.{Malformed, NoRoom}
@@ -68,10 +69,6 @@ command-bit r h = rw (← by-number r) (at (codeOf r .number - 1) (omega arith))
   at (suc (suc (suc (suc n)))) l = absurd (omega arith)
 
 -- ---- commands
-
--- anything follows where two different constructors would be equal
-pub never : {A : Type 0} → _≡_ {A = ℕ} 0 1 → A
-never z = absurd (omega arith)
 
 refused-command : (r : Refusal) → codeOf r .number ≤ 4 → (s : State) (one two : List ℕ) →
     RefusedCommand r s one two (refusedBy r s one two)

@@ -35,7 +35,8 @@ use Rattle.command.specs.declared.Kind.{Kind}
 use Rattle.command.specs.declared.Kind.the-variants.{Set, Query}
 use Rattle.demand2.specs.Written.{written}
 use Rattle.demand2.proofs.Written.{whole, taken-whole, read-as, kept-size, written-again}
-use Rattle.invariant.proofs.Bytes.{all, inNumber, inArguments, inCommand, all-append, in-arguments, in-command}
+use Rattle.laws.proofs.Lists.{all, all-append}
+use Rattle.invariant.proofs.Bytes.{inNumber, inArguments, inCommand, in-arguments, in-command}
 use Rattle.invariant.proofs.Bytes.{parts-free, parts-joined, begins-other, cleaned-same, arguments-some}
 use Rattle.invariant.proofs.Bytes.{plain-bytes, plain-some, signed-bytes, signed-some}
 use Rattle.invariant.proofs.Meanings.{Name, Alike, alike-text, alike-keeps}

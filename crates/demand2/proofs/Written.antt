@@ -7,6 +7,7 @@ use native.Mathlib.Omega.{arith}
 use native.Mathlib.Nat.{div-add-mod', mod-one, add-zero}
 use lib.Dec.{T, leb, ltb, eqb, eqb→eq, leb→le}
 use borrow.Author.Tests.{lt-ltb, le-ltb, le-leb, lt-leb, leb-true, ltb-true, ltb-false, eqb-true}
+use Rattle.laws.proofs.Tests.{never}
 use Rattle.number.specs.Number.{isNumber}
 use Rattle.number.specs.Value.{exactOf}
 use Rattle.number.specs.Parts.{cap, quantityOf, readOf, fitsRange, roundedTo, placedIn, valueIn, takenOf}
@@ -25,9 +26,6 @@ use Rattle.settings.proofs.Rows.{row-rule, row-size, row-decimals, step-least, 
 use Rattle.settings.proofs.Phase.{turned-only}
 use Rattle.settings.proofs.Exact.{value-exact}
 use Rattle.demand2.specs.Written.{written, WrittenAgain, WrittenApart}
-
-never : {A : Type 0} → _≡_ {A = ℕ} 0 1 → A
-never e = absurd (omega arith)
 
 -- a value kept as v with its bias, known exactly
 abbrev pub whole : ℕ → ℕ → Quantity

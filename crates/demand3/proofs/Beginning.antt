@@ -5,6 +5,7 @@ use mathlib.Core.Bool.{Bool, true, false, _||_}
 use mathlib.Core.Path.{_≡_, refl, sym, ap, _∙_}
 use mathlib.Core.Logic.{_≢_}
 use mathlib.Core.List.{List, [], _∷_}
+use Rattle.laws.proofs.Tests.{never}
 use Rattle.outcome.specs.declared.Refusal.{Refusal}
 use Rattle.outcome.specs.declared.Refusal.the-variants.{NoReset, LongScriptLine}
 use Rattle.outcome.specs.declared.Outcome.the-variants as outcome
@@ -20,7 +21,7 @@ use Rattle.extreme_courses.specs.declared.Extremes.{Extremes}
 use Rattle.script.specs.Check.{textsAnswer, textsAfter, lineAnswer, lineAfter}
 use Rattle.script.specs.Check.{Finding, fine, noCommand, stop, later, foundBy, finding}
 use Rattle.demand3.specs.Demand3.{Lead, none, first, leadBy, leadIn, orElse, leadFrom, isRstCommand}
-use Rattle.demand3.proofs.FirstRefusal.{never, not-passed, not-done, answer-passed, answer-split}
+use Rattle.demand3.proofs.FirstRefusal.{not-passed, not-done, answer-passed, answer-split}
 use Rattle.demand3.proofs.Witness.{refused-same}
 use Rattle.demand3.proofs.LongLines.{numberOf, begun-texts, begun-number, event-begun, passed-short, refused-split}
 

@@ -8,6 +8,7 @@ use mathlib.Core.List.{List, [], _∷_}
 use lib.Dec.{ltb}
 use lib.ListN.{length, getD, length-replicate}
 use borrow.Author.Tests.{eq-eqb, ltb-true, ltb-false}
+use Rattle.laws.proofs.Tests.{split, never}
 use Rattle.outcome.specs.declared.Refusal.{Refusal}
 use Rattle.outcome.specs.declared.Refusal.the-variants.{LongLine, NoReset, LongScriptLine, BadTraces}
 use Rattle.outcome.specs.declared.Outcome.the-variants as outcome
@@ -28,7 +29,7 @@ use Rattle.demand3.specs.Course.{answerOf, answers}
 use Rattle.demand3.specs.Demand3.{lineNumbered, Short, none, first, leadOf, isRstCommand, beginsWithReset, AllPass, FirstRefused}
 use Rattle.demand3.specs.Demand3.{NotBegun, other, nothing, LongAt, Demand3}
 use Rattle.demand3.proofs.SameButTimeConstant.{alike-self}
-use Rattle.demand3.proofs.FirstRefusal.{never, not-passed}
+use Rattle.demand3.proofs.FirstRefusal.{not-passed}
 use Rattle.demand3.proofs.Commands.{Sim}
 use Rattle.demand3.proofs.Soundness.{Open, line-open, line-long, events-open, script-passes, script-earlier}
 use Rattle.demand3.proofs.Witness.{Side, low, high, At}
@@ -50,7 +51,7 @@ module _ (model : Model) (lines : List (List ℕ)) (k : Course model lines) wher
   course-sim = record { same = k .same; begun = λ e. absurd (false≢true e) }
 
   course-open : Open (k .start)
-  course-open = world-open model (k .start) (k .valid) (k .report) (k .first) (k .second)
+  course-open = world-open model (k .start) (k .valid) (k .same) (k .first) (k .second)
 
 -- ---- the check's two courses, from a fresh module
 
@@ -99,10 +100,6 @@ module _ (model : Model) (fits : modelFits model ≡ true) where
 
 -- ---- cases
 
-bool-split : (t : Bool) (Goal : Type 0) → (t ≡ true → Goal) → (t ≡ false → Goal) → Goal
-bool-split true G f g = f refl
-bool-split false G f g = g refl
-
 found-split : (v : Finding) (Goal : Type 0) → (v ≡ fine → Goal) → (v ≡ noCommand → Goal)
     → ((i p : ℕ) (r : Refusal) → v ≡ stop i p r → Goal) → Goal
 found-split fine G f g h = f refl
@@ -117,8 +114,8 @@ seven-eight = apart NoReset LongScriptLine (λ e. omega arith)
 
 order-split : (i j : ℕ) (Goal : Type 0) → (i < j → Goal) → (i ≡ j → Goal) → (j < i → Goal) → Goal
 order-split i j G f g h =
-    bool-split (ltb i j) G (λ e. f (ltb-true i j e))
-    (λ e. bool-split (ltb j i) G (λ d. h (ltb-true j i d)) (λ d. g (omega (arith, ltb-false i j e, ltb-false j i d))))
+    split (ltb i j) (λ e. f (ltb-true i j e))
+    (λ e. split (ltb j i) (λ d. h (ltb-true j i d)) (λ d. g (omega (arith, ltb-false i j e, ltb-false j i d))))
 
 -- ---- what the check says, by what it finds
 
@@ -403,7 +400,7 @@ module _ (model : Model) (script : List ℕ) where
       → (modelFits model ≡ true → verdictOf (finds model (linesOf script)) ≡ v → Goal)
       → (modelFits model ≡ false → No 0 0 BadTraces ≡ v → Goal) → Goal
   by-model v G e f g =
-      bool-split (modelFits model) G
+      split (modelFits model)
       (λ h. f h (sym (check-fits model script h) ∙ e))
       (λ h. g h (sym (check-unfit model script h) ∙ e))
 

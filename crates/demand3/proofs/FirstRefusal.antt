@@ -5,6 +5,7 @@ use mathlib.Core.Bool.{Bool, true, false, cond}
 use mathlib.Core.Path.{_≡_, refl, sym, ap, _∙_}
 use mathlib.Core.List.{List, [], _∷_}
 use lib.ListN.{getD}
+use Rattle.laws.proofs.Tests.{never}
 use Rattle.outcome.specs.declared.Refusal.{Refusal}
 use Rattle.outcome.specs.declared.Outcome.{Outcome}
 use Rattle.outcome.specs.declared.Outcome.the-variants as outcome
@@ -15,9 +16,6 @@ use Rattle.extreme_courses.specs.declared.Extremes.{Extremes}
 use Rattle.script.specs.Check.{answerAt, lineAnswer, lineAfter, Finding, fine, noCommand, stop, later, foundBy, finding}
 
 -- ---- apart
-
-pub never : {A : Type 0} → _≡_ {A = ℕ} 0 1 → A
-never z = absurd (omega arith)
 
 pub not-passed : {A : Type 0} (r : Refusal) (p : ℕ) → Refused r p ≡ Passed → A
 not-passed r p e = never (cc)

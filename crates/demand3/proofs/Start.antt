@@ -17,7 +17,7 @@ use Rattle.lockin.specs.Start.{startCall}
 use Rattle.extreme_courses.specs.Model.{modelFits}
 use Rattle.extreme_courses.specs.declared.Model.{Model}
 use Rattle.invariant.specs.Representable.{Every, Word, Byte, ModuleFits}
-use Rattle.invariant.proofs.Bytes.{all}
+use Rattle.laws.proofs.Lists.{all}
 use Rattle.demand3.specs.Course.{WorldFits, StartAnswers, Startable, freshWorld}
 use Rattle.demand3.proofs.FirstRefusal.{not-done}
 use Rattle.settings.specs.Limits.{capacityLeast, capacityMost}

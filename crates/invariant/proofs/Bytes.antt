@@ -7,28 +7,13 @@ use native.Mathlib.Omega.{arith}
 use lib.Dec.{leb, ltb, eqb}
 use lib.ListN.{length, length-append}
 use borrow.Author.Tests.{le-leb, leb-true, lt-ltb, eq-eqb, ne-eqb}
+use Rattle.laws.proofs.Lists.{all, all-append, all-wider}
 use Rattle.split.specs.Divide.{parts, onHead}
 use Rattle.line_text.specs.Clean.{cleaned}
 use Rattle.number.specs.Number.{minus, point, begins}
 use Rattle.format.specs.Text.{padded, digitCount, plain, fixed, sign, distance, signedText}
 use Rattle.format.proofs.Digits.{padded-length, places-some}
 use Rattle.command.specs.Arguments.{comma, arguments}
-
--- every byte passes a test
-abbrev pub all : (ℕ → Bool) → List ℕ → Bool
-all p [] = true
-all p (b ∷ bs) = p b && all p bs
-
-pub all-append : (p : ℕ → Bool) (xs ys : List ℕ) → all p xs ≡ true → all p ys ≡ true → all p (xs ++ ys) ≡ true
-all-append p [] ys h k = k
-all-append p (x ∷ xs) ys h k =
-    let both = and-eq-true-iff (p x) (all p xs) .0 h in rw (both .0, all-append p xs ys (both .1) k)
-
-pub all-wider : (p q : ℕ → Bool) → ((b : ℕ) → p b ≡ true → q b ≡ true) → (xs : List ℕ) → all p xs ≡ true →
-    all q xs ≡ true
-all-wider p q f [] h = refl
-all-wider p q f (x ∷ xs) h =
-    let both = and-eq-true-iff (p x) (all p xs) .0 h in rw (f x (both .0), all-wider p q f xs (both .1))
 
 -- from low to high
 abbrev between : ℕ → ℕ → ℕ → Bool

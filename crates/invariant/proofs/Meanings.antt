@@ -12,13 +12,13 @@ use Rattle.mnemonic.specs.declared.Register.{Register}
 use Rattle.mnemonic.specs.declared.Meaning.{Meaning}
 use Rattle.mnemonic.specs.declared.Meaning.the-variants.{Setting, Channel, ChannelPair, Enable, Status, Identity}
 use Rattle.mnemonic.specs.declared.Meaning.the-variants.{Points, Trace, Act, Unknown}
-use Rattle.mnemonic.proofs.Rule.{same-bytes, name-rule}
-use Rattle.mnemonic.proofs.Rule as rule
+use Rattle.mnemonic.proofs.Rule.{same-bytes, named-by, name-rule}
 use Rattle.settings.specs.Table.{table, rowOf, entries, oflt, send}
 use Rattle.settings.specs.Setting.{stepOf}
 use Rattle.settings.specs.Valid.{every, valueValid}
 use Rattle.settings.proofs.Every.{every-at}
-use Rattle.invariant.proofs.Bytes.{all, inCommand}
+use Rattle.laws.proofs.Lists.{all}
+use Rattle.invariant.proofs.Bytes.{inCommand}
 
 -- ---- entries with channels
 
@@ -104,7 +104,7 @@ fits name (Trace form) = true
 fits name (Act a) = true
 fits name Unknown = true
 
-fits-all : rule.all fits commands ≡ true
+fits-all : all (named-by fits) commands ≡ true
 unfolding every table rowOf
 fits-all = refl
 

@@ -1,2 +1,3 @@
--- Laws on tests that the toolchain does not have.
+-- Laws on tests and lists that the toolchain does not have.
 pub mod Tests
+pub mod Lists

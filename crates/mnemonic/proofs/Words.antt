@@ -6,10 +6,10 @@ use mathlib.Core.List.{List, [], _∷_}
 use native.Mathlib.Omega.{arith}
 use lib.Dec.{T, eqb, ltb, ltb→lt}
 use borrow.Author.Tests.{eq-eqb, ne-eqb, eqb-true, eqb-false}
+use Rattle.laws.proofs.Lists.{all}
 use Rattle.mnemonic.specs.Names.{Named, commands, sameBytes, meaningIn}
 use Rattle.mnemonic.specs.Parts.{word, foundIn}
 use Rattle.mnemonic.specs.Words.{isFour, FoundWord}
-use Rattle.mnemonic.proofs.Rule.{all}
 
 module _ (a b c d e f g h : ℕ) (ha : a < 256) (hb : b < 256) (hc : c < 256) (hd : d < 256)
     (he : e < 256) (hf : f < 256) (hg : g < 256) (hh : h < 256)
@@ -40,7 +40,7 @@ both-true false b t = absurd t
 
 -- every name of a list is four bytes
 abbrev allFour : List Named → Bool
-allFour ns = all (λ s m. isFour s) ns
+allFour ns = all (λ n. isFour (n .name)) ns
 
 same-four : (s t : List ℕ) → T (isFour s) → T (isFour t) → eqb (word s) (word t) ≡ sameBytes s t
 same-four (a ∷ b ∷ c ∷ d ∷ []) (e ∷ f ∷ g ∷ h ∷ []) p q =

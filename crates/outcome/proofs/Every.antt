@@ -1,9 +1,10 @@
 -- A rule over the refusals is one test that computes; and a refusal's number tells which it is. Assumes nothing.
-use Prim.Native.Nat.{ℕ, zero, suc, _-_}
+use Prim.Native.Nat.{ℕ, _-_}
 use mathlib.Core.Path.{_≡_, refl, sym, ap, _∙_}
-use mathlib.Core.Bool.{Bool, true, _&&_, and-eq-true-iff}
-use mathlib.Core.List.{List, [], _∷_, foldr}
+use mathlib.Core.Bool.{Bool, true, and-eq-true-iff}
+use mathlib.Core.List.{List, [], _∷_}
 use lib.ListN.{getD}
+use Rattle.laws.proofs.Lists.{all, all-at}
 use Rattle.outcome.specs.Code.{codeOf}
 use Rattle.outcome.specs.declared.Refusal.{Refusal}
 use Rattle.outcome.specs.declared.Refusal.the-variants.{Malformed, OutOfRange, NotAllowed, NoRoom, LongLine}
@@ -36,16 +37,6 @@ by-number BadState = refl
 -- no two refusals have one number
 pub same-refusal : (r s : Refusal) → codeOf r .number ≡ codeOf s .number → r ≡ s
 same-refusal r s e = sym (by-number r) ∙ ap refusalOf e ∙ by-number s
-
--- a test of each refusal of a list
-abbrev pub all : (Refusal → Bool) → List Refusal → Bool
-all p rs = foldr (λ r t. p r && t) true rs
-
-all-at : (p : Refusal → Bool) (d : Refusal) → p d ≡ true → (rs : List Refusal) → all p rs ≡ true →
-    (i : ℕ) → p (getD rs i d) ≡ true
-all-at p d h [] t i = h
-all-at p d h (r ∷ rs) t zero = and-eq-true-iff (p r) (all p rs) .0 t .0
-all-at p d h (r ∷ rs) t (suc i) = all-at p d h rs (and-eq-true-iff (p r) (all p rs) .0 t .1) i
 
 -- a test that computes to true over the list holds of each refusal
 pub refusal-rule : (p : Refusal → Bool) → all p everyRefusal ≡ true → (r : Refusal) → p r ≡ true

@@ -5,6 +5,7 @@ use mathlib.Core.Bool.{Bool, true, false, true≢false, cond, _&&_}
 use mathlib.Core.List.{List, [], _∷_}
 use lib.Dec.{T, leb, ltb, leb→le}
 use lib.ListN.{getD}
+use Rattle.laws.proofs.Lists.{all}
 use Rattle.settings.specs.Table.{table, rowOf, noRow, phase, frequency}
 use Rattle.settings.specs.Limits.{hertz}
 use Rattle.settings.specs.Frequency.{stepBy, frequencyStep}
@@ -20,11 +21,6 @@ and-left false b t = t
 and-right : (a b : Bool) → T (a && b) → T b
 and-right true b t = t
 and-right false b t = absurd t
-
--- the test holds of every row
-abbrev pub all : (Row → Bool) → List Row → Bool
-all p [] = true
-all p (r ∷ rs) = p r && all p rs
 
 -- a test that holds of every row holds of the one at an index
 all-at : (p : Row → Bool) (rs : List Row) (d : Row) → T (all p rs) → T (p d) → (i : ℕ) → T (p (getD rs i d))
