@@ -15,13 +15,13 @@ abbrev pub written : ℕ → ℕ → List ℕ
 written entry v = signedText (rowOf entry .decimals) (rowOf entry .bias) v
 
 -- the text of a value is a number, and sets the same value
-pub record Again (entry v : ℕ) : Type 0 where
+pub record SetsAgain (entry v : ℕ) : Type 0 where
   pub number : isNumber (written entry v) ≡ true
   pub value : settingOf entry (written entry v) ≡ Value v
 
 -- this holds of every entry and every value that the entry may have
 abbrev pub WrittenAgain : Type 0
-WrittenAgain = (entry v : ℕ) → valueValid entry v ≡ true → Again entry v
+WrittenAgain = (entry v : ℕ) → valueValid entry v ≡ true → SetsAgain entry v
 
 -- so no two values have the same text
 abbrev pub WrittenApart : Type 0

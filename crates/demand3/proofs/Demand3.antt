@@ -26,7 +26,7 @@ use Rattle.verdict.specs.declared.Verdict.the-variants.{Fine, No}
 use Rattle.invariant.proofs.StaysValid.{stays-valid}
 use Rattle.demand3.specs.Course.{World, StartAnswers, Startable, freshWorld, before, after, LineInputs, Course}
 use Rattle.demand3.specs.Course.{answerOf, answers}
-use Rattle.demand3.specs.Demand3.{lineNumbered, Short, none, first, leadOf, isRstCommand, beginsWithReset, AllPass, FirstRefused}
+use Rattle.demand3.specs.Demand3.{lineNumbered, Short, none, first, firstCommand, isRstCommand, beginsWithReset, AllPass, FirstRefused}
 use Rattle.demand3.specs.Demand3.{NotBegun, other, nothing, LongAt, Demand3}
 use Rattle.demand3.proofs.SameButTimeConstant.{alike-self}
 use Rattle.demand3.proofs.FirstRefusal.{not-passed}
@@ -219,7 +219,7 @@ module _ (model : Model) (lines : List (List ℕ)) where
   -- ---- each verdict
 
   -- how the script begins
-  starts : Begins 1 (finds model lines) (leadOf lines)
+  starts : Begins 1 (finds model lines) (firstCommand lines)
   starts = begins-found model 1 lines startExtremes refl
 
   all-pass : modelFits model ≡ true → finds model lines ≡ fine → AllPass model lines
@@ -231,7 +231,7 @@ module _ (model : Model) (lines : List (List ℕ)) where
         passed = course-fine e;
       }
     where
-      by : Begins 1 (finds model lines) (leadOf lines) → beginsWithReset (leadOf lines) ≡ true
+      by : Begins 1 (finds model lines) (firstCommand lines) → beginsWithReset (firstCommand lines) ≡ true
       by (withReset n q c u w x) = unfold beginsWithReset in rw u w
       by (withOther i p n c f z u w) = never (cc)
       by (withNothing f u) = never (cc)
@@ -240,7 +240,7 @@ module _ (model : Model) (lines : List (List ℕ)) where
   -- 7
   not-begun : (i p : ℕ) → finds model lines ≡ stop i p NoReset → NotBegun lines (suc i) p
   not-begun i p e = by starts where
-    by : Begins 1 (finds model lines) (leadOf lines) → NotBegun lines (suc i) p
+    by : Begins 1 (finds model lines) (firstCommand lines) → NotBegun lines (suc i) p
     by (withReset n q c u w x) = let k : NoReset ≢ NoReset = rw e at x in absurd (k refl)
     by (withOther j q n c f z u w) =
         let a : stop j q NoReset ≡ stop i p NoReset = sym f ∙ e in
@@ -253,7 +253,7 @@ module _ (model : Model) (lines : List (List ℕ)) where
 
   no-command : finds model lines ≡ noCommand → NotBegun lines 1 1
   no-command e = nothing (by starts) (short-every (λ i. short-passes model lines startExtremes i (rw e tt))) where
-    by : Begins 1 (finds model lines) (leadOf lines) → leadOf lines ≡ none
+    by : Begins 1 (finds model lines) (firstCommand lines) → firstCommand lines ≡ none
     by (withReset n q c u w x) = absurd (rw e at x)
     by (withOther i p n c f z u w) = never (cc)
     by (withNothing f u) = u
@@ -274,8 +274,8 @@ module _ (model : Model) (lines : List (List ℕ)) where
       })
       (λ t h. absurd (omega arith))
     where
-      by : (m q : ℕ) (c : Parsed) → leadOf lines ≡ first m q c → m < suc i
-          → Begins 1 (finds model lines) (leadOf lines) → isRstCommand c ≡ true
+      by : (m q : ℕ) (c : Parsed) → firstCommand lines ≡ first m q c → m < suc i
+          → Begins 1 (finds model lines) (firstCommand lines) → isRstCommand c ≡ true
       by m q c f h (withReset n y d u w x) =
           let z : first n y d ≡ first m q c = sym u ∙ f in
           let b : d ≡ c = cc in
@@ -292,7 +292,7 @@ module _ (model : Model) (lines : List (List ℕ)) where
   unfolding lineNumbered
   long-suc i e f = false≢true (sym f ∙ e)
 
-  begins-is : (n p : ℕ) (c : Parsed) → leadOf lines ≡ first n p c → beginsWithReset (leadOf lines) ≡ isRstCommand c
+  begins-is : (n p : ℕ) (c : Parsed) → firstCommand lines ≡ first n p c → beginsWithReset (firstCommand lines) ≡ isRstCommand c
   unfolding beginsWithReset
   begins-is n p c u = rw u refl
 
@@ -317,7 +317,7 @@ module _ (model : Model) (lines : List (List ℕ)) where
 
     fine-back : AllPass model lines → finds model lines ≡ fine
     fine-back a = by starts where
-      by : Begins 1 (finds model lines) (leadOf lines) → finds model lines ≡ fine
+      by : Begins 1 (finds model lines) (firstCommand lines) → finds model lines ≡ fine
       by (withReset n q c u w x) =
           found-split (finds model lines) (finds model lines ≡ fine) (λ e. e) (λ e. absurd (rw e at x))
           (λ i p r e. absurd (stop-refused i p r e (rw e at x) (λ k. a .passed k (suc i))))
@@ -343,7 +343,7 @@ module _ (model : Model) (lines : List (List ℕ)) where
       where
         -- before the over-long line the check does not stop by 7
         begun : (i q : ℕ) (r : Refusal) → finds model lines ≡ stop i q r → i < j
-            → Begins 1 (finds model lines) (leadOf lines) → r ≢ NoReset
+            → Begins 1 (finds model lines) (firstCommand lines) → r ≢ NoReset
         begun i q r e h (withReset n y c u w x) s = let k : r ≢ NoReset = rw e at x in k s
         begun i q r e h (withOther k y n c f z u w) s =
             let b : k ≡ i = cc in
@@ -354,7 +354,7 @@ module _ (model : Model) (lines : List (List ℕ)) where
     -- the other first command, or none
     begun-back : (n p : ℕ) → NotBegun lines n p → verdictOf (finds model lines) ≡ No n p NoReset
     begun-back n p (other m q c l f s) = by starts where
-      by : Begins 1 (finds model lines) (leadOf lines) → verdictOf (finds model lines) ≡ No n p NoReset
+      by : Begins 1 (finds model lines) (firstCommand lines) → verdictOf (finds model lines) ≡ No n p NoReset
       by (withReset m y d u w x) =
           let z : first m y d ≡ first n p c = sym u ∙ l in
           let b : d ≡ c = cc in
@@ -371,7 +371,7 @@ module _ (model : Model) (lines : List (List ℕ)) where
           (λ t z q. absurd (long-suc i t (s (suc i) (omega (arith, u n p c l)))))
           (λ t h. absurd (omega arith))
     begun-back n p (nothing l s) = by starts where
-      by : Begins 1 (finds model lines) (leadOf lines) → verdictOf (finds model lines) ≡ No 1 1 NoReset
+      by : Begins 1 (finds model lines) (firstCommand lines) → verdictOf (finds model lines) ≡ No 1 1 NoReset
       by (withReset m y d u w x) = never (cc)
       by (withOther i y m d e z u w) = never (cc)
       by (withNothing e u) = rw e refl

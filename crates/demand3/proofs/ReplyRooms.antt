@@ -207,14 +207,14 @@ cond-rest true next rest P e d = absurd (false≢true (sym e))
 cond-rest false next rest P e d = d
 
 -- the line after one more command
-record Goes (room : ℕ) (t : List ℕ) (l : Line) : Type 0 where
+record CommandFits (room : ℕ) (t : List ℕ) (l : Line) : Type 0 where
   valid : validState (afterCommand room t l .after) ≡ true
   sized : Sized (afterCommand room t l .after)
   kept : afterCommand room t l .report .dropped ≡ false
   short : length (afterCommand room t l .out) ≤ length (l .out) + most
 
 step-fits : (room : ℕ) (t : List ℕ) (l : Line) → validState (l .after) ≡ true → Sized (l .after)
-    → length (l .out) + most ≤ room → Goes room t l
+    → length (l .out) + most ≤ room → CommandFits room t l
 unfolding afterCommand afterOf
 step-fits room t l a k h =
     let left = room - length (l .out) in

@@ -94,8 +94,8 @@ module _ (x : Settings) (m hi : Acquisition) (e v : ℕ) where
 -- ---- commands
 
 -- a command that neither the low nor the high course refuses
-abbrev pub Goes : ℕ → Settings → (m lo hi : Acquisition) → Kind → Type 0
-Goes capacity x m lo hi kind =
+abbrev pub Simulates : ℕ → Settings → (m lo hi : Acquisition) → Kind → Type 0
+Simulates capacity x m lo hi kind =
     (isAllowed x m kind ≡ true)
     × Between capacity (settingsAfter kind x) (acquisitionAfter kind x m capacity) (acquisitionAfter kind x lo capacity) (acquisitionAfter kind x hi capacity)
 
@@ -105,7 +105,7 @@ start-between capacity =
     record { kept = k .values; limit = leb-true _ _ (k .limit); external = omega arith; low = low-emptied capacity; high = λ e. e }
 
 -- *RST in any state
-pub reset-goes : (capacity : ℕ) (x : Settings) (m lo hi : Acquisition) → Goes capacity x m lo hi (Act Reset)
+pub reset-goes : (capacity : ℕ) (x : Settings) (m lo hi : Acquisition) → Simulates capacity x m lo hi (Act Reset)
 unfolding isAllowed settingsAfter restoredBy acquisitionAfter externalAfter externalBy storageAfter storageBy
 reset-goes capacity x m lo hi = (refl, start-between capacity)
 
@@ -118,7 +118,7 @@ module _ (capacity : ℕ) (x : Settings) (m lo hi : Acquisition) (k : Between ca
       → Between capacity x (withStorage m′ m) (withStorage lo′ lo) (withStorage hi′ hi)
   with-storage m′ lo′ hi′ l r = record { kept = k .kept; limit = k .limit; external = k .external; low = l; high = r }
 
-  set-goes : (a : SetArgument) → Storable (Set a) → isAllowed x hi (Set a) ≡ true → Goes capacity x m lo hi (Set a)
+  set-goes : (a : SetArgument) → Storable (Set a) → isAllowed x hi (Set a) ≡ true → Simulates capacity x m lo hi (Set a)
   unfolding isAllowed setAllowed settingsAfter setIn withPair acquisitionAfter externalAfter storageAfter
   set-goes (set.Value e v) s h = (
     value-allows x m hi e v (k .external) (k .high) h,
@@ -138,7 +138,7 @@ module _ (capacity : ℕ) (x : Settings) (m lo hi : Acquisition) (k : Between ca
   set-goes (set.Enable r v) s h = (refl, k)
   set-goes (set.EnableBit r i v) s h = (refl, k)
 
-  query-goes : (q : QueryArgument) → isAllowed x lo (Query q) ≡ true → Goes capacity x m lo hi (Query q)
+  query-goes : (q : QueryArgument) → isAllowed x lo (Query q) ≡ true → Simulates capacity x m lo hi (Query q)
   unfolding isAllowed queryAllowed settingsAfter acquisitionAfter externalAfter storageAfter holdsOf
   query-goes (query.Trace form t bin count) h =
       (le-leb (bin + count) (m .storage .held) (omega (arith, leb-true (bin + count) (lo .storage .held) h, k .low .fewer)), k)
@@ -161,7 +161,7 @@ module _ (capacity : ℕ) (x : Settings) (m lo hi : Acquisition) (k : Between ca
       triggered-reset capacity by (m .storage)
       ∙ readied (eqb (by .start) triggerStarts) (sym (triggered-reset capacity by (hi .storage)) ∙ e)
 
-  act-goes : (a : Action) → Goes capacity x m lo hi (Act a)
+  act-goes : (a : Action) → Simulates capacity x m lo hi (Act a)
   unfolding isAllowed settingsAfter restoredBy acquisitionAfter externalAfter externalBy storageAfter storageBy
   act-goes Reset = (refl, start-between capacity)
   act-goes Clear = (refl, k)
@@ -184,7 +184,7 @@ module _ (capacity : ℕ) (x : Settings) (m lo hi : Acquisition) (k : Between ca
         (triggered (samplingOf x)),
   )
 
-  pub command-goes : (kind : Kind) → Storable kind → isAllowed x lo kind ≡ true → isAllowed x hi kind ≡ true → Goes capacity x m lo hi kind
+  pub command-goes : (kind : Kind) → Storable kind → isAllowed x lo kind ≡ true → isAllowed x hi kind ≡ true → Simulates capacity x m lo hi kind
   command-goes (Set a) s l h = set-goes a s h
   command-goes (Query q) s l h = query-goes q l
   command-goes (Act a) s l h = act-goes a

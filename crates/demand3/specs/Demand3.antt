@@ -36,34 +36,34 @@ abbrev pub Short : List (List ℕ) → ℕ → Type 0
 Short lines n = lineTooLong (lineNumbered lines n) ≡ false
 
 -- the first command of a script that is not empty, if there is one: its line, its place and what it is read as
-pub data Lead : Type 0 where
-  none : Lead
-  first : (line place : ℕ) (command : Parsed) → Lead
+pub data FirstCommand : Type 0 where
+  none : FirstCommand
+  first : (line place : ℕ) (command : Parsed) → FirstCommand
 
 -- a command at a line and a place, and what comes later
-unfoldable pub leadBy : Parsed → ℕ → ℕ → Lead → Lead
-leadBy Empty line place later = later
-leadBy (Refused r) line place later = first line place (Refused r)
-leadBy (Taken c) line place later = first line place (Taken c)
+unfoldable pub firstCommandBy : Parsed → ℕ → ℕ → FirstCommand → FirstCommand
+firstCommandBy Empty line place later = later
+firstCommandBy (Refused r) line place later = first line place (Refused r)
+firstCommandBy (Taken c) line place later = first line place (Taken c)
 
 -- the commands of a line, from a place on
-unfoldable pub leadIn : ℕ → ℕ → List (List ℕ) → Lead
-leadIn line place [] = none
-leadIn line place (t ∷ ts) = leadBy (parsedOf t) line place (leadIn line (place + 1) ts)
+unfoldable pub firstCommandIn : ℕ → ℕ → List (List ℕ) → FirstCommand
+firstCommandIn line place [] = none
+firstCommandIn line place (t ∷ ts) = firstCommandBy (parsedOf t) line place (firstCommandIn line (place + 1) ts)
 
 -- the earlier of two, where there is one
-unfoldable pub orElse : Lead → Lead → Lead
+unfoldable pub orElse : FirstCommand → FirstCommand → FirstCommand
 orElse none later = later
 orElse (first line place c) later = first line place c
 
 -- the lines of a script, from a line number on
-unfoldable pub leadFrom : ℕ → List (List ℕ) → Lead
-leadFrom line [] = none
-leadFrom line (l ∷ ls) = orElse (leadIn line 1 (textsOf l)) (leadFrom (line + 1) ls)
+unfoldable pub firstCommandFrom : ℕ → List (List ℕ) → FirstCommand
+firstCommandFrom line [] = none
+firstCommandFrom line (l ∷ ls) = orElse (firstCommandIn line 1 (textsOf l)) (firstCommandFrom (line + 1) ls)
 
 -- the lines of a script
-abbrev pub leadOf : List (List ℕ) → Lead
-leadOf lines = leadFrom 1 lines
+abbrev pub firstCommand : List (List ℕ) → FirstCommand
+firstCommand lines = firstCommandFrom 1 lines
 
 -- a command is *RST, with no argument and no question mark
 unfoldable pub isRstCommand : Parsed → Bool
@@ -72,7 +72,7 @@ isRstCommand (Refused r) = false
 isRstCommand (Taken c) = resets (c .kind)
 
 -- a script begins with *RST: the first command that is not empty is it
-unfoldable pub beginsWithReset : Lead → Bool
+unfoldable pub beginsWithReset : FirstCommand → Bool
 beginsWithReset none = false
 beginsWithReset (first line place c) = isRstCommand c
 
@@ -86,7 +86,7 @@ PassedBefore model lines n = (k : Course model lines) (m : ℕ) → m < n → an
 -- *RST and no line is over 256 bytes.
 pub record AllPass (model : Model) (lines : List (List ℕ)) : Type 0 where
   pub startable : Startable model
-  pub begun : beginsWithReset (leadOf lines) ≡ true
+  pub begun : beginsWithReset (firstCommand lines) ≡ true
   pub short : (n : ℕ) → Short lines n
   pub passed : (k : Course model lines) (n : ℕ) → answers k n ≡ answer.Passed
 
@@ -102,16 +102,16 @@ pub record FirstRefused (model : Model) (lines : List (List ℕ)) (n place : ℕ
 -- 7: the first command that is not empty is another than *RST, and no line up to it is over 256 bytes; or every command
 -- of the script is empty, which is said at line 1, place 1
 pub data NotBegun (lines : List (List ℕ)) : ℕ → ℕ → Type 0 where
-  other : (n place : ℕ) (c : Parsed) → leadOf lines ≡ first n place c → isRstCommand c ≡ false
+  other : (n place : ℕ) (c : Parsed) → firstCommand lines ≡ first n place c → isRstCommand c ≡ false
       → ((m : ℕ) → m ≤ n → Short lines m) → NotBegun lines n place
-  nothing : leadOf lines ≡ none → ((m : ℕ) → Short lines m) → NotBegun lines 1 1
+  nothing : firstCommand lines ≡ none → ((m : ℕ) → Short lines m) → NotBegun lines 1 1
 
 -- 8, at place 0: line n is over 256 bytes; a first command on an earlier line is *RST, and the earlier lines pass,
 -- whatever the course
 pub record LongAt (model : Model) (lines : List (List ℕ)) (n place : ℕ) : Type 0 where
   pub nowhere : place ≡ 0
   pub long : lineTooLong (lineNumbered lines n) ≡ true
-  pub begun : (m q : ℕ) (c : Parsed) → leadOf lines ≡ first m q c → m < n → isRstCommand c ≡ true
+  pub begun : (m q : ℕ) (c : Parsed) → firstCommand lines ≡ first m q c → m < n → isRstCommand c ≡ true
   pub before : PassedBefore model lines n
 
 -- the claim, of a model and a script

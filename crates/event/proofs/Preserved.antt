@@ -23,7 +23,7 @@ use Rattle.event.specs.declared.Event.{Event}
 use Rattle.event.specs.declared.Event.the-variants.{Latest, Tick, Trigger, Measured, Raised}
 
 -- what stays
-pub record Stays (e : Event) (s : State) (one two : List ℕ) : Type 0 where
+pub record EventPreserves (e : Event) (s : State) (one two : List ℕ) : Type 0 where
   pub valid : validState s ≡ true → validState (eventOf e s one two .after) ≡ true
   pub installation : eventOf e s one two .after .installation ≡ s .installation
   pub first : length (eventOf e s one two .one) ≡ length one
@@ -149,7 +149,7 @@ event-second Trigger s one two = stored-length (triggerOf s) s (s .latest .two) 
 event-second (Measured f) s one two = refl
 event-second (Raised lia errors) s one two = refl
 
-pub stays : (e : Event) (s : State) (one two : List ℕ) → Stays e s one two
+pub stays : (e : Event) (s : State) (one two : List ℕ) → EventPreserves e s one two
 stays e s one two =
     record {
       valid = event-stays e s one two;

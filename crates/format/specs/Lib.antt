@@ -1,4 +1,4 @@
--- What replies in text say. Again is the promise on them, Parts is what only inner functions are held to.
+-- What replies in text say. RoundTrip is the promise on them, Parts is what only inner functions are held to.
 pub mod Text
 pub mod Parts
 pub mod RoundTrip

@@ -1,5 +1,5 @@
--- The promise on replies' numbers, once over the decimals, proved in `proofs/Again.antt`: what is written, read again,
--- is the same value. Assumes nothing.
+-- The promise on replies' numbers, once over the decimals, proved in `proofs/RoundTrip.antt`: what is written, read
+-- again, is the same value. Assumes nothing.
 use Prim.Native.Nat.{ℕ, _^_, _<_}
 use mathlib.Core.Bool.{Bool, true, false}
 use mathlib.Core.Path.{_≡_}

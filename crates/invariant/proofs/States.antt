@@ -13,7 +13,7 @@ use Rattle.line.specs.Perform.{Effect, storageStepBy, doneBy, commandOf}
 use Rattle.line.specs.Line.{Line, waits, afterOf, afterCommand, runAll, startLine, lineOf}
 use Rattle.line_text.specs.Texts.{textsOf}
 use Rattle.event.proofs.Preserved.{event-stays, event-installation, event-first, event-second, stored-length}
-use Rattle.invariant.specs.StaysValid.{Stays, StatesStay}
+use Rattle.invariant.specs.StaysValid.{StatePreserved, StatesStay}
 use Rattle.invariant.proofs.Storable.{parsed-storable}
 use Rattle.invariant.proofs.Change.{after-stays, marked-stays}
 use Rattle.invariant.proofs.Command.{command-by}
@@ -22,10 +22,10 @@ use Rattle.invariant.proofs.Command.{command-by}
 
 command-stays : (room : ℕ) (waiting : Bool) (text : List ℕ) (s : State) (one two : List ℕ) →
     let e = commandOf room waiting (parsedOf text) s one two in
-    Stays s (e .after) one two (e .one) (e .two)
+    StatePreserved s (e .after) one two (e .one) (e .two)
 unfolding doneBy withErrorBit
 command-stays room waiting text s one two =
-    command-by room waiting s one two (λ (e : Effect). Stays s (e .after) one two (e .one) (e .two))
+    command-by room waiting s one two (λ (e : Effect). StatePreserved s (e .after) one two (e .one) (e .two))
     (record { valid = λ h. h; installation = refl; first-length = refl; second-length = refl })
     (λ r n. record { valid = λ h. marked-stays s h r; installation = refl; first-length = refl; second-length = refl })
     (λ kind k p.
@@ -39,8 +39,8 @@ command-stays room waiting text s one two =
 
 -- ---- lines
 
-both-stay : (a b c : State) (one two one′ two′ one″ two″ : List ℕ) → Stays a b one two one′ two′ →
-    Stays b c one′ two′ one″ two″ → Stays a c one two one″ two″
+both-stay : (a b c : State) (one two one′ two′ one″ two″ : List ℕ) → StatePreserved a b one two one′ two′ →
+    StatePreserved b c one′ two′ one″ two″ → StatePreserved a c one two one″ two″
 both-stay a b c one two one′ two′ one″ two″ p q =
     record {
       valid = λ h. q .valid (p .valid h);
@@ -51,13 +51,13 @@ both-stay a b c one two one′ two′ one″ two″ p q =
 
 step-stays : (room : ℕ) (text : List ℕ) (l : Line) →
     let n = afterCommand room text l in
-    Stays (l .after) (n .after) (l .one) (l .two) (n .one) (n .two)
+    StatePreserved (l .after) (n .after) (l .one) (l .two) (n .one) (n .two)
 unfolding afterCommand afterOf
 step-stays room text l = command-stays (room - length (l .out)) (waits (l .out)) text (l .after) (l .one) (l .two)
 
 run-stays : (room : ℕ) (texts : List (List ℕ)) (l : Line) →
     let n = runAll room texts l in
-    Stays (l .after) (n .after) (l .one) (l .two) (n .one) (n .two)
+    StatePreserved (l .after) (n .after) (l .one) (l .two) (n .one) (n .two)
 unfolding runAll
 run-stays room [] l = record { valid = λ h. h; installation = refl; first-length = refl; second-length = refl }
 run-stays room (text ∷ more) l =
@@ -71,9 +71,9 @@ run-stays room (text ∷ more) l =
     last : Line
     last = runAll room more next
 
-    by : (t : Bool) → Stays (l .after) (last .after) (l .one) (l .two) (last .one) (last .two) →
+    by : (t : Bool) → StatePreserved (l .after) (last .after) (l .one) (l .two) (last .one) (last .two) →
         let n = cond t next last in
-        Stays (l .after) (n .after) (l .one) (l .two) (n .one) (n .two)
+        StatePreserved (l .after) (n .after) (l .one) (l .two) (n .one) (n .two)
     by true p = step-stays room text l
     by false p = p
 

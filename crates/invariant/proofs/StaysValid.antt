@@ -32,7 +32,7 @@ use Rattle.lockin.specs.Start.{refusedStart, startCall}
 use Rattle.reply_buffer.specs.After.{After}
 use Rattle.lockin.specs.Calls.{withQueue, guarded, refusedWhole, lineEnd, wholeLine, lineCall, receivedCall, byteReceived}
 use Rattle.lockin.specs.Calls.{byteCall, eventCall}
-use Rattle.invariant.specs.StaysValid.{Stays, Goes, Reachable, byStart, byLine, byByte, byEvent, StaysValid}
+use Rattle.invariant.specs.StaysValid.{StatePreserved, ModulePreserved, Reachable, byStart, byLine, byByte, byEvent, StaysValid}
 use Rattle.invariant.proofs.Change.{marked-stays}
 use Rattle.invariant.proofs.States.{states-stay}
 
@@ -136,9 +136,9 @@ module-valid m t q a u k h =
     let both = and-eq-true-iff (validState (m .state)) (queue.isValid (m .queue) (m .state .installation .port)) .0 h in
     rw (a (both .0), u) (k (both .1))
 
-module-goes : (m : Module) (t : State) (q : Queue) (one two first second : List ℕ) → Stays (m .state) t one two first second
+module-goes : (m : Module) (t : State) (q : Queue) (one two first second : List ℕ) → StatePreserved (m .state) t one two first second
     → (queue.isValid (m .queue) (m .state .installation .port) ≡ true → queue.isValid q (m .state .installation .port) ≡ true)
-    → length (q .bytes) ≡ length (m .queue .bytes) → Goes m (record { state = t; queue = q }) one two first second
+    → length (q .bytes) ≡ length (m .queue .bytes) → ModulePreserved m (record { state = t; queue = q }) one two first second
 module-goes m t q one two first second s k l =
     record {
       valid = module-valid m t q (s .valid) (s .installation) k;
@@ -153,16 +153,16 @@ module-goes m t q one two first second s k l =
       queued = l;
     }
 
-same-goes : (m : Module) (one two : List ℕ) → Goes m m one two one two
+same-goes : (m : Module) (one two : List ℕ) → ModulePreserved m m one two one two
 same-goes m one two = record { valid = λ h. h; next = λ h. h; queued = refl }
 
-marked-state : (r : Refusal) (s : State) (one two : List ℕ) → Stays s (withErrorBit r s) one two one two
+marked-state : (r : Refusal) (s : State) (one two : List ℕ) → StatePreserved s (withErrorBit r s) one two one two
 unfolding withErrorBit
 marked-state r s one two = record { valid = λ h. marked-stays s h r; installation = refl; first-length = refl; second-length = refl }
 
 -- a call on a module and its traces leads on
 abbrev On : {R : Type 0} → Module → List ℕ → List ℕ → After Module R → Type 0
-On m one two c = Goes m (c .after) one two (c .one) (c .two)
+On m one two c = ModulePreserved m (c .after) one two (c .one) (c .two)
 
 guarded-goes : {R : Type 0} (report : Refusal → R) (o : Outcome) (c : After Module R) (m : Module) (one two : List ℕ) →
     On m one two c → On m one two (guarded report o c m one two)
@@ -240,7 +240,7 @@ event-goes e m one two =
 
 -- ---- what we made
 
-goes-whole : (m n : Module) (one two first second : List ℕ) → Goes m n one two first second → Whole m → Whole n
+goes-whole : (m n : Module) (one two first second : List ℕ) → ModulePreserved m n one two first second → Whole m → Whole n
 goes-whole m n one two first second g w = (g .valid (w .0), g .queued ∙ w .1)
 
 made-both : (m : Module) → Reachable m → Whole m

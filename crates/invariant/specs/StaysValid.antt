@@ -23,7 +23,7 @@ use Rattle.lockin.specs.Calls.{lineCall, byteCall, eventCall}
 
 -- from a state and its traces to others: a valid state stays valid, what is fixed at start stays, and each trace
 -- keeps its length
-pub record Stays (before after : State) (one two first second : List ℕ) : Type 0 where
+pub record StatePreserved (before after : State) (one two first second : List ℕ) : Type 0 where
   pub valid : validState before ≡ true → validState after ≡ true
   pub installation : after .installation ≡ before .installation
   pub first-length : length first ≡ length one
@@ -34,17 +34,17 @@ pub record StatesStay : Type 0 where
   pub start : (u : Installation) → installationValid u ≡ true → validState (startState u) ≡ true
   pub command : (room : ℕ) (waiting : Bool) (text : List ℕ) (s : State) (one two : List ℕ) →
       let e = commandOf room waiting (parsedOf text) s one two in
-      Stays s (e .after) one two (e .one) (e .two)
+      StatePreserved s (e .after) one two (e .one) (e .two)
   pub line : (room : ℕ) (bytes : List ℕ) (s : State) (one two : List ℕ) →
       let l = lineOf room bytes s one two in
-      Stays s (l .after) one two (l .one) (l .two)
+      StatePreserved s (l .after) one two (l .one) (l .two)
   pub event : (event : Event) (s : State) (one two : List ℕ) →
       let e = eventOf event s one two in
-      Stays s (e .after) one two (e .one) (e .two)
+      StatePreserved s (e .after) one two (e .one) (e .two)
 
 -- from a module and its traces to others: a valid module stays valid, and where neither 11 (the state) nor 9 (the
 -- traces) refuses a call, neither refuses the next one; the queue's bytes stay as many
-pub record Goes (before after : Module) (one two first second : List ℕ) : Type 0 where
+pub record ModulePreserved (before after : Module) (one two first second : List ℕ) : Type 0 where
   pub valid : validModule before ≡ true → validModule after ≡ true
   pub next : guardOf before (length one) (length two) ≡ Done → guardOf after (length first) (length second) ≡ Done
   pub queued : length (after .queue .bytes) ≡ length (before .queue .bytes)
@@ -73,11 +73,11 @@ pub record StaysValid : Type 0 where
       length (startCall serial port first second .after .queue .bytes) ≡ lineLimit
   pub line : (room : ℕ) (bytes : List ℕ) (m : Module) (one two : List ℕ) →
       let c = lineCall room bytes m one two in
-      Goes m (c .after) one two (c .one) (c .two)
+      ModulePreserved m (c .after) one two (c .one) (c .two)
   pub byte : (room b : ℕ) (mark : Bool) (m : Module) (one two : List ℕ) → length (m .queue .bytes) ≡ lineLimit →
       let c = byteCall room b mark m one two in
-      Goes m (c .after) one two (c .one) (c .two)
+      ModulePreserved m (c .after) one two (c .one) (c .two)
   pub event : (event : Event) (m : Module) (one two : List ℕ) →
       let c = eventCall event m one two in
-      Goes m (c .after) one two (c .one) (c .two)
+      ModulePreserved m (c .after) one two (c .one) (c .two)
   pub made : (m : Module) → Reachable m → validModule m ≡ true

@@ -1,6 +1,6 @@
 // The operation `alter`: the field that it names, and the value that it gives it.
 use crate::fields;
-use crate::fields::Kind;
+use crate::fields::FieldKind;
 use crate::operation::Operation;
 use crate::operation::WORD_DIGITS;
 use terminal::Number;
@@ -41,12 +41,12 @@ fn decode_phase(part: &[u8]) -> Number {
 // many they are.
 fn decode_value(part: &[u8], field: usize, bytes: &mut [u8]) -> Number {
     match fields::kind_of(field) {
-        Kind::Number(most) => terminal::decode_number(part, terminal::DECIMAL, most),
-        Kind::Setting(entry) => decode_setting(part, entry),
-        Kind::Word => terminal::decode_word(part, WORD_DIGITS),
-        Kind::Phase => decode_phase(part),
-        Kind::Queue => terminal::decode_bytes(part, bytes),
-        Kind::Flag => terminal::decode_number(part, terminal::DECIMAL, 1),
+        FieldKind::Number(most) => terminal::decode_number(part, terminal::DECIMAL, most),
+        FieldKind::Setting(entry) => decode_setting(part, entry),
+        FieldKind::Word => terminal::decode_word(part, WORD_DIGITS),
+        FieldKind::Phase => decode_phase(part),
+        FieldKind::Queue => terminal::decode_bytes(part, bytes),
+        FieldKind::Flag => terminal::decode_number(part, terminal::DECIMAL, 1),
     }
 }
 

@@ -88,7 +88,7 @@ pub const PHASE_COUNT: usize = 4;
 const LAST_BYTE: u32 = u8::MAX as u32;
 
 // How a field's value is written.
-pub enum Kind {
+pub enum FieldKind {
     // As a decimal number, at most this one.
     Number(u32),
     // As a decimal number less the bias of this setting's entry.
@@ -104,22 +104,22 @@ pub enum Kind {
 }
 
 // How the value of a field is written.
-pub fn kind_of(field: usize) -> Kind {
+pub fn kind_of(field: usize) -> FieldKind {
     if EXT < field {
         if field <= TSTR {
-            return Kind::Setting(field - PHAS - 1);
+            return FieldKind::Setting(field - PHAS - 1);
         }
     }
     match field {
-        PHAS => Kind::Setting(settings::PHAS),
-        FMOD => Kind::Setting(settings::FMOD),
-        FREQ => Kind::Setting(settings::FREQ),
-        SERIAL | CAP | EXT | HELD | NEXT => Kind::Number(u32::MAX),
-        PORT | ESR..=ERRE => Kind::Number(LAST_BYTE),
-        STORAGE => Kind::Phase,
-        PAIR_ONE | PAIR_TWO => Kind::Word,
-        QUEUE => Kind::Queue,
-        _ => Kind::Flag,
+        PHAS => FieldKind::Setting(settings::PHAS),
+        FMOD => FieldKind::Setting(settings::FMOD),
+        FREQ => FieldKind::Setting(settings::FREQ),
+        SERIAL | CAP | EXT | HELD | NEXT => FieldKind::Number(u32::MAX),
+        PORT | ESR..=ERRE => FieldKind::Number(LAST_BYTE),
+        STORAGE => FieldKind::Phase,
+        PAIR_ONE | PAIR_TWO => FieldKind::Word,
+        QUEUE => FieldKind::Queue,
+        _ => FieldKind::Flag,
     }
 }
 

@@ -58,7 +58,7 @@ pub enum Operation {
 }
 
 // An argument that was read.
-enum Argument {
+enum OperationArgument {
     // What it says, and where the next one starts: past the text's end behind the last.
     Value(u32, usize),
     // No argument of the kind that is asked for.
@@ -96,15 +96,15 @@ fn decode_kind(part: &[u8], kind: u8, bytes: &mut [u8]) -> Number {
 }
 
 // The argument that starts at an index of the text.
-fn decode_argument(text: &[u8], start: usize, kind: u8, bytes: &mut [u8]) -> Argument {
+fn decode_argument(text: &[u8], start: usize, kind: u8, bytes: &mut [u8]) -> OperationArgument {
     if text.len() < start {
-        return Argument::Invalid;
+        return OperationArgument::Invalid;
     }
     let end = split::end_of(text, b' ', start);
     let Number::Value(value) = decode_kind(&text[start..end], kind, bytes) else {
-        return Argument::Invalid;
+        return OperationArgument::Invalid;
     };
-    Argument::Value(value, end + 1)
+    OperationArgument::Value(value, end + 1)
 }
 
 // The arguments of the operation whose name has an index, the first of which starts at an index of the text.
@@ -123,7 +123,7 @@ fn decode_arguments(name: usize, text: &[u8], start: usize, bytes: &mut [u8]) ->
                 valid: text.len() < next,
             };
         }
-        let Argument::Value(value, after) = decode_argument(text, next, kind, bytes) else {
+        let OperationArgument::Value(value, after) = decode_argument(text, next, kind, bytes) else {
             return Arguments {
                 values,
                 valid: false,

@@ -2,7 +2,7 @@
 use line_text::LINE;
 use lockin::Module;
 use ops_protocol::fields;
-use ops_protocol::fields::Kind;
+use ops_protocol::fields::FieldKind;
 use queue::Queue;
 use state::Acquisition;
 use state::Installation;
@@ -164,12 +164,12 @@ fn with_discarding(q: Queue, value: u32) -> Queue {
 pub fn with_field(m: Module, field: usize, value: u32, bytes: &[u8]) -> Module {
     let mut t = m;
     match fields::kind_of(field) {
-        Kind::Setting(entry) => t.state = with_setting(m.state, entry, value),
-        Kind::Queue => t.queue = queue_of_bytes(
+        FieldKind::Setting(entry) => t.state = with_setting(m.state, entry, value),
+        FieldKind::Queue => t.queue = queue_of_bytes(
             terminal::first_bytes(bytes, value as usize),
             m.queue.discarding,
         ),
-        Kind::Flag => t.queue = with_discarding(m.queue, value),
+        FieldKind::Flag => t.queue = with_discarding(m.queue, value),
         _ => t.state = with_number(m.state, field, value),
     }
     t

@@ -8,7 +8,7 @@ use lockin::LineResult;
 use lockin::Module;
 
 // What a call hands to the module.
-pub enum Input {
+pub enum CallInput {
     // A line, whole.
     Line,
     // A byte, and whether it carries the end mark.
@@ -18,22 +18,22 @@ pub enum Input {
 // Hands a line or a byte to the module.
 fn call_module(
     m: Module,
-    input: Input,
+    input: CallInput,
     line: &[u8],
     one: &mut [u32],
     two: &mut [u32],
     reply: &mut [u8],
 ) -> LineResult {
     match input {
-        Input::Line => lockin::take_line(m, line, one, two, reply),
-        Input::Byte(b, mark) => lockin::take_byte(m, b, mark, one, two, reply),
+        CallInput::Line => lockin::take_line(m, line, one, two, reply),
+        CallInput::Byte(b, mark) => lockin::take_byte(m, b, mark, one, two, reply),
     }
 }
 
 // Hands a line or a byte to the module, and writes the answer.
 fn call_and_report(
     m: Module,
-    input: Input,
+    input: CallInput,
     line: &[u8],
     one: &mut [u32],
     two: &mut [u32],
@@ -47,7 +47,7 @@ fn call_and_report(
 // Hands a line or a byte to the module, with a reply buffer of `room` bytes.
 pub fn run_call(
     m: Module,
-    input: Input,
+    input: CallInput,
     line: &[u8],
     room: usize,
     one: &mut [u32],

@@ -2,7 +2,7 @@
 use crate::alter::phase_number;
 use lockin::Module;
 use ops_protocol::fields;
-use ops_protocol::fields::Kind;
+use ops_protocol::fields::FieldKind;
 use queue::Queue;
 use terminal::write_bytes;
 
@@ -37,7 +37,7 @@ fn number_at(m: Module, field: usize) -> u32 {
 
 // The value of a field but for the queue's bytes, as a number: a setting with the bias of its entry.
 fn value_at(m: Module, field: usize) -> u32 {
-    if let Kind::Setting(entry) = fields::kind_of(field) {
+    if let FieldKind::Setting(entry) = fields::kind_of(field) {
         return settings::value_of(m.state.settings, entry);
     }
     number_at(m, field)
@@ -53,14 +53,14 @@ fn write_queue(out: &mut [u8], at: usize, q: Queue) -> usize {
 fn write_value(out: &mut [u8], at: usize, m: Module, field: usize) -> usize {
     let value = value_at(m, field);
     match fields::kind_of(field) {
-        Kind::Number(_) | Kind::Flag => terminal::write_number(out, at, value as u64),
-        Kind::Setting(entry) => {
+        FieldKind::Number(_) | FieldKind::Flag => terminal::write_number(out, at, value as u64),
+        FieldKind::Setting(entry) => {
             let row = settings::row_of(entry);
             terminal::write_signed(out, at, value, row.bias)
         }
-        Kind::Word => terminal::write_hex(out, at, value as u64, WORD_DIGITS),
-        Kind::Phase => fields::write_phase(out, at, value),
-        Kind::Queue => write_queue(out, at, m.queue),
+        FieldKind::Word => terminal::write_hex(out, at, value as u64, WORD_DIGITS),
+        FieldKind::Phase => fields::write_phase(out, at, value),
+        FieldKind::Queue => write_queue(out, at, m.queue),
     }
 }
 

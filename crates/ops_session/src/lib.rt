@@ -5,7 +5,7 @@ mod call;
 mod dump;
 mod start;
 
-use call::Input;
+use call::CallInput;
 use lockin::Module;
 use ops_protocol::Operation;
 use script::Model;
@@ -69,7 +69,7 @@ fn run_on_slots(
     match operation {
         Operation::Line(len, room) => call::run_call(
             m,
-            Input::Line,
+            CallInput::Line,
             terminal::first_bytes(bytes, len),
             room,
             one,
@@ -77,7 +77,7 @@ fn run_on_slots(
         ),
         Operation::Byte(b, mark, room) => call::run_call(
             m,
-            Input::Byte(b, mark),
+            CallInput::Byte(b, mark),
             bytes,
             room,
             one,

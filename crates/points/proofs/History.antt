@@ -45,7 +45,7 @@ use Rattle.event.specs.Event.{measuredBy, bitsRaised, sampledIn, eventOf}
 use Rattle.event.specs.declared.Event.{Event}
 use Rattle.event.specs.declared.Event.the-variants as event
 use Rattle.state.proofs.Sound.{sound}
-use Rattle.invariant.specs.StaysValid.{Stays}
+use Rattle.invariant.specs.StaysValid.{StatePreserved}
 use Rattle.points.specs.Points.{History, Holds, afterTick, afterTrigger, historyAfterEvent, afterAction, afterKind}
 use Rattle.points.specs.Points.{afterText, afterTexts}
 use Rattle.points.specs.Points as points
@@ -60,7 +60,7 @@ pub record Fits (s : State) (one two : List ℕ) : Type 0 where
   pub first : length one ≡ s .installation .capacity
   pub second : length two ≡ s .installation .capacity
 
-pub fits-after : (s t : State) (one two first second : List ℕ) → Stays s t one two first second → Fits s one two →
+pub fits-after : (s t : State) (one two first second : List ℕ) → StatePreserved s t one two first second → Fits s one two →
     Fits t first second
 fits-after s t one two first second k f =
     record {

@@ -1,4 +1,4 @@
--- The promise that no set value leads to refusal 11, proved in `proofs/Kept.antt`. Assumes nothing.
+-- The promise that no set value leads to refusal 11, proved in `proofs/Invariant.antt`. Assumes nothing.
 use Prim.Native.Nat.{ℕ, _<_}
 use mathlib.Core.Bool.{true}
 use mathlib.Core.Path.{_≡_}
