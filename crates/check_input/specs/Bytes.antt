@@ -11,7 +11,7 @@ use Rattle.check_input.specs.declared.bytes.Input.{Input}
 
 -- the byte that ends line one
 abbrev pub lineFeed : ℕ
-lineFeed = 10
+lineFeed = 0xA
 
 -- what has been read, and the bytes that were lent for the script
 pub record Memory : Type 0 where

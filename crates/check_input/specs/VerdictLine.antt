@@ -4,17 +4,22 @@ use mathlib.Core.List.{List, [], _∷_, _++_}
 use lib.ListN.{take}
 use Rattle.split.specs.Ascii.{bytes}
 use Rattle.format.specs.Text.{plain}
+use Rattle.check_input.specs.Bytes.{lineFeed}
 use Rattle.verdict.specs.Numbers.{VerdictNumbers, ok, no, verdictNumbers}
 use Rattle.verdict.specs.declared.Verdict.{Verdict}
 use Rattle.check_input.specs.declared.verdict_line.VerdictLine.{VerdictLine}
 
+-- the byte " "
+abbrev pub space : ℕ
+space = 0x20
+
 -- LF, which ends the line
 abbrev pub endOfLine : List ℕ
-endOfLine = 10 ∷ []
+endOfLine = lineFeed ∷ []
 
 -- a space and a whole number, its digits and no zero in front
 abbrev pub spaced : ℕ → List ℕ
-spaced n = 32 ∷ plain n
+spaced n = space ∷ plain n
 
 -- one line: `ok`, or `no` with the line, the place and the refusal's number
 unfoldable pub saidText : VerdictNumbers → List ℕ

@@ -6,7 +6,7 @@ pub use Rattle.split.specs.Ascii.{comma}
 
 -- what makes a command a query: "?"
 abbrev pub questionMark : ℕ
-questionMark = 63
+questionMark = 0x3F
 
 -- the arguments' texts: divided by commas; no text after the name or the "?" is no argument
 unfoldable pub arguments : List ℕ → List (List ℕ)

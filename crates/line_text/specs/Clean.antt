@@ -12,19 +12,23 @@ lineLimit = 256
 
 -- the byte " "
 abbrev pub space : ℕ
-space = 32
+space = 0x20
+
+-- the byte LF
+abbrev pub lf : ℕ
+lf = 0xA
 
 -- the byte CR
 abbrev pub cr : ℕ
-cr = 13
+cr = 0xD
 
 -- the letter "a"
 abbrev pub smallA : ℕ
-smallA = 97
+smallA = 0x61
 
 -- the letter "z"
 abbrev pub smallZ : ℕ
-smallZ = 122
+smallZ = 0x7A
 
 -- how far a capital letter is below its small one
 abbrev pub caseDistance : ℕ

@@ -6,7 +6,7 @@ use Rattle.line_text.specs.Clean.{cleaned}
 
 -- ";" stands between commands
 abbrev pub semicolon : ℕ
-semicolon = 59
+semicolon = 0x3B
 
 -- the commands' texts of a line, empty ones too
 abbrev pub textsOf : List ℕ → List (List ℕ)

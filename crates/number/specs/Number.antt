@@ -8,27 +8,27 @@ use Rattle.split.specs.Divide.{span, before, after}
 
 -- the sign "+"
 abbrev pub plus : ℕ
-plus = 43
+plus = 0x2B
 
 -- the sign "-"
 abbrev pub minus : ℕ
-minus = 45
+minus = 0x2D
 
 -- the decimal point "."
 abbrev pub point : ℕ
-point = 46
+point = 0x2E
 
 -- "E", before a power of ten
 abbrev pub letterE : ℕ
-letterE = 69
+letterE = 0x45
 
 -- the digit "0"
 abbrev pub digitZero : ℕ
-digitZero = 48
+digitZero = 0x30
 
 -- the digit "9"
 abbrev pub digitNine : ℕ
-digitNine = 57
+digitNine = 0x39
 
 -- whether a byte is a digit
 abbrev pub isDigit : ℕ → Bool

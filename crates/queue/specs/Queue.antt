@@ -4,7 +4,7 @@ use mathlib.Core.Bool.{Bool, true, false, cond, not, _&&_, _||_}
 use mathlib.Core.List.{List, [], _∷_}
 use lib.Dec.{leb, ltb, eqb}
 use lib.ListN.{take, set, replicate}
-pub use Rattle.line_text.specs.Clean.{lineLimit, cr}
+pub use Rattle.line_text.specs.Clean.{lineLimit, cr, lf}
 use Rattle.queue.specs.declared.Queue.{Queue}
 use Rattle.queue.specs.declared.LineEnd.{LineEnd}
 use Rattle.queue.specs.declared.LineEnd.the-variants.{Nothing, Line, TooLong}
@@ -16,10 +16,6 @@ rs232 = 0
 -- the number of the GPIB port
 abbrev pub gpib : ℕ
 gpib = 1
-
--- the byte LF
-abbrev pub lf : ℕ
-lf = 10
 
 -- the bytes that wait: the line so far
 abbrev pub waitingBytes : Queue → List ℕ

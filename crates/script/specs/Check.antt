@@ -10,7 +10,7 @@ use Rattle.outcome.specs.declared.Refusal.the-variants.{NoReset, LongScriptLine
 use Rattle.outcome.specs.declared.Outcome.{Outcome}
 use Rattle.outcome.specs.declared.Outcome.the-variants as outcome
 use Rattle.command.specs.Parsed.{parsedOf}
-use Rattle.line_text.specs.Clean.{lineLimit}
+use Rattle.line_text.specs.Clean.{lineLimit, lf}
 use Rattle.line_text.specs.Texts.{textsOf}
 use Rattle.outcome.specs.declared.Answer.{Answer}
 use Rattle.outcome.specs.declared.Answer.the-variants as answer
@@ -103,7 +103,7 @@ withoutLast (l ∷ m ∷ more) = l ∷ withoutLast (m ∷ more)
 
 -- the lines of a script
 abbrev pub linesOf : List ℕ → List (List ℕ)
-linesOf script = withoutLast (parts 10 script)
+linesOf script = withoutLast (parts lf script)
 
 -- "9 first (line 0, place 0)"
 unfoldable pub checkOf : Model → List ℕ → Verdict

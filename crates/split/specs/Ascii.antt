@@ -15,4 +15,4 @@ bytes s = bytesFrom 0 (len s) s
 
 -- "," stands between arguments, and between the values of a reply
 abbrev pub comma : ℕ
-comma = 44
+comma = 0x2C
