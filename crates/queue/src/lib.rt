@@ -71,13 +71,7 @@ impl Queue {
 pub fn ends_line(port: u8, b: u8) -> bool
     ensures { λ r. ⌜ r ≡ endsLine port b ⌝ }
 {
-    if b == b'\n' {
-        return true;
-    }
-    if port == RS232 {
-        return b == b'\r';
-    }
-    false
+    (b == b'\n') | ((port == RS232) & (b == b'\r'))
 }
 
 // Whether a byte's end mark ends a line: on GPIB only.
