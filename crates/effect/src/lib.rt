@@ -255,14 +255,15 @@ fn changed(s: State, kind: Kind, p: StorageStep) -> State
 pub fn state_after(s: State, kind: Kind, p: StorageStep) -> State
     ensures { λ r. ⌜ r ≡ stateBy kind p s ⌝ }
 {
+    let next = changed(s, kind, p);
     match kind {
-        Kind::Set(_) => state::crossed(changed(s, kind, p), state::detection_now(s)),
-        Kind::Query(_) => changed(s, kind, p),
+        Kind::Set(_) => state::crossed(next, state::detection_now(s)),
+        Kind::Query(_) => next,
         Kind::Act(a) => {
             if is_trigger(a) {
                 return state::sampled(s, p);
             }
-            changed(s, kind, p)
+            next
         }
     }
 }
