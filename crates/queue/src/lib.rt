@@ -71,7 +71,13 @@ impl Queue {
 pub fn ends_line(port: u8, b: u8) -> bool
     ensures { λ r. ⌜ r ≡ endsLine port b ⌝ }
 {
-    (b == b'\n') | ((port == RS232) & (b == b'\r'))
+    if b == b'\n' {
+        return true;
+    }
+    if port == RS232 {
+        return b == b'\r';
+    }
+    false
 }
 
 // Whether a byte's end mark ends a line: on GPIB only.
