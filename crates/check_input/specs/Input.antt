@@ -16,7 +16,7 @@ use Rattle.verdict.specs.declared.Verdict.{Verdict}
 use Rattle.verdict.specs.declared.Verdict.the-variants.{No}
 use Rattle.check_input.specs.VerdictLine.{verdictText}
 
--- "the capacity, digits only, on line one (anything else counts as 0)"
+-- the capacity on line one, which is digits alone; any other line counts as capacity 0
 unfoldable pub capacityOf : List ℕ → ℕ
 capacityOf line = cond (allDigits line) (decimal line) 0
 
@@ -24,13 +24,13 @@ capacityOf line = cond (allDigits line) (decimal line) 0
 abbrev pub scriptLimit : ℕ
 scriptLimit = 60000
 
--- "more is `no 0 0 8`, unless 9 applies"
+-- a script past the limit is 8 at line 0, place 0, where the capacity is not refused by 9
 unfoldable pub limitedCheck : ℕ → List ℕ → Verdict
 limitedCheck capacity script =
     cond (ltb scriptLimit (length script) && capacityFits capacity) (No 0 0 LongScriptLine)
     (checkOf (modelOf capacity) script)
 
--- "The check program reads the capacity .. on line one .., then .. script bytes"
+-- the verdict on a whole input: line one is the capacity, the rest the script
 unfoldable pub inputVerdict : List ℕ → Verdict
 inputVerdict input = limitedCheck (capacityOf (before lineFeed input)) (after lineFeed input)
 

@@ -54,9 +54,9 @@ isTrigger Start = false
 isTrigger Pause = false
 isTrigger Empty = false
 
--- ---- the settings: a set keeps its value, "*RST restores every setting .. to the start"
+-- ---- the settings: a set keeps its value, *RST takes all to their start
 
--- two values, the second at the entry behind the first's
+-- two values, the second at the entry after the first's
 unfoldable pub withPair : Settings → ℕ → ℕ → ℕ → Settings
 withPair s entry v w = withValue (withValue s entry v) (nextEntry entry) w
 
@@ -77,8 +77,7 @@ settingsAfter (Set a) s = setIn s a
 settingsAfter (Query q) s = s
 settingsAfter (Act a) s = restoredBy a s
 
--- ---- storage: "STRT runs it from reset or paused, PAUS pauses a running one, REST empties it", "*RST .. empties
--- storage", "TRIG and the trigger event do the same"
+-- ---- storage: STRT, PAUS and REST act on it alone, *RST empties it too, and TRIG is a trigger
 
 -- storage with nothing stored and no bit set
 abbrev pub unstored : Storage → StorageStep
@@ -99,7 +98,7 @@ storageAfter (Set a) s m capacity = unstored (m .storage)
 storageAfter (Query q) s m capacity = unstored (m .storage)
 storageAfter (Act a) s m capacity = storageBy a (m .storage) capacity (samplingOf s)
 
--- ---- the acquisition: storage, and "*RST restores .. the external frequency to the start"
+-- ---- the acquisition: storage, and the external frequency, which *RST takes to its start
 
 -- the external frequency after an action
 unfoldable pub externalBy : Action → ℕ → ℕ
@@ -119,8 +118,7 @@ acquisitionBy kind p m = withStorage (p .storage) (atFrequency (externalAfter ki
 unfoldable pub acquisitionAfter : Kind → Settings → Acquisition → ℕ → Acquisition
 acquisitionAfter kind s m capacity = acquisitionBy kind (storageAfter kind s m capacity) m
 
--- ---- the registers: "*ESR?, LIAS? and ERRS? reply and clear; with an argument i (0-7) only bit i", "*STB? .. changes
--- nothing", "*CLS clears the three event registers"
+-- ---- the registers: the query of an event register clears it, or the one bit asked for; *CLS clears all three
 
 -- the registers after a query
 unfoldable pub registersAsked : QueryArgument → Registers → Registers
@@ -144,7 +142,7 @@ registersAfter (Set a) r = r
 registersAfter (Query q) r = registersAsked q r
 registersAfter (Act a) r = registersBy a r
 
--- ---- the enables: "*ESE, *SRE, LIAE and ERRE take one value 0-255, or bit 0-7 and 0 or 1"
+-- ---- the enables, each set whole or bit by bit
 
 -- the enables after a set
 unfoldable pub enablesSet : SetArgument → Enables → Enables
@@ -159,7 +157,7 @@ enablesAfter (Set a) e = enablesSet a e
 enablesAfter (Query q) e = e
 enablesAfter (Act a) e = e
 
--- ---- the state: "status, enables, latest pair, serial, queue and port stay" unless said above
+-- ---- the state: what no definition above changes stays
 
 -- the parts that a command changes, given what it does to storage
 unfoldable pub changedBy : Kind → StorageStep → State → State
@@ -169,8 +167,8 @@ changedBy kind p s =
     (withRegisters (registersAfter kind (s .registers))
     (withEnables (enablesAfter kind (s .enables)) s)))
 
--- "When a command or event lifts it above 200 Hz ..": a set, which alone moves the detection frequency; after *RST "no
--- LIA bit is set"; "TRIG and the trigger event do the same": the state after TRIG is the event's
+-- the state after a command that does p to storage: a set, the one command that moves the detection frequency by its
+-- value, is followed by the crossing's rule; *RST is not, so it sets no LIA bit; after TRIG it is the trigger event's
 abbrev pub stateBy : Kind → StorageStep → State → State
 stateBy (Set a) p s = crossedFrom (detectionNow s) (changedBy (Set a) p s)
 stateBy (Query q) p s = changedBy (Query q) p s

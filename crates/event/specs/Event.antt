@@ -27,7 +27,7 @@ eventEffect e = record { state = e .after; outcome = e .report }
 abbrev pub quiet : EventEffect → List ℕ → List ℕ → After State Outcome
 quiet h one two = silent (h .outcome) (h .state) one two
 
--- refusal 6, "event value not legal (a point, a bit)": "nothing"
+-- refusal 6: a value of the event is not legal, and nothing is done
 abbrev pub refused : State → EventEffect
 refused s = record { state = s; outcome = Refused BadEvent }
 
@@ -35,7 +35,7 @@ refused s = record { state = s; outcome = Refused BadEvent }
 abbrev pub done : State → EventEffect
 done s = record { state = s; outcome = Done }
 
--- "a new latest pair (two points, one per trace ..)"
+-- a new latest pair: one point for each trace
 unfoldable pub latestTaken : ℕ → ℕ → State → EventEffect
 latestTaken w v s = cond (latestValid (pairOf w v)) (done (withLatest (pairOf w v) s)) (refused s)
 
@@ -51,15 +51,15 @@ withExternal f s = withAcquisition (atFrequency f (s .acquisition)) s
 abbrev pub notTaken : ℕ
 notTaken = 2 ^ 3
 
--- "A measured frequency is ignored when FMOD is 1; outside 0.001 to 102000 Hz, or breaking the 102 kHz limit, it is not
--- taken, LIA bit 3 is set and the answer is 0."
+-- a measured frequency: ignored in internal mode; one that is out of its range, or with which the detection frequency
+-- would pass its limit, is left aside with LIA bit 3 set, and the event still ends as done
 unfoldable pub measuredBy : ℕ → State → State
 measuredBy f s =
     cond (isInternal (s .settings)) s
     (cond (takesFrequency s f) (crossedFrom (detectionNow s) (withExternal f s))
     (withRegisters (withLia (s .registers) notTaken) s))
 
--- "raised bits (LIA 0-3; ERR 1, 2, 4-7)"
+-- bits that are raised from outside, where an event may raise them
 unfoldable pub bitsRaised : ℕ → ℕ → State → EventEffect
 bitsRaised lia errors s =
     cond (mayRaise lia errors) (done (withRegisters (withRaised (s .registers) lia errors) s)) (refused s)

@@ -13,7 +13,7 @@ use Rattle.verdict.specs.declared.Verdict.the-variants.{Fine, No}
 pub record Scripts (model : Model) : Type 0 where
   -- "`*RST` alone must pass"
   pub reset-alone : checkOf model (bytes "*RST") ≡ Fine
-  -- "an empty script must not": "A script with none is 7 at line 1, place 1."
+  -- an empty script does not pass: 7 at line 1, place 1
   pub empty : checkOf model [] ≡ No 1 1 NoReset
 
 -- for every model that there can be: at every legal capacity

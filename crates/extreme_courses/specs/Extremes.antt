@@ -20,7 +20,7 @@ use Rattle.effect.specs.Effect.{isRst, settingsAfter, acquisitionAfter}
 use Rattle.extreme_courses.specs.declared.Model.{Model}
 use Rattle.extreme_courses.specs.declared.Extremes.{Extremes}
 
--- "a well-formed *RST"
+-- whether a command is *RST
 unfoldable pub resets : Kind → Bool
 resets (Set a) = false
 resets (Query q) = false
@@ -45,8 +45,7 @@ beforeLine model b =
       high = triggeredHigh (model .capacity) (b .settings) (measuredHigh (b .settings) (b .high));
     }
 
--- "7, at the first command that isn't empty, unless that is a well-formed *RST, then 1 to 3": 3 where one of the two
--- courses refuses
+-- before *RST has begun the script every other command is 7; afterwards 3 where one of the two courses refuses
 unfoldable pub kindRefusal : Kind → Extremes → Outcome
 kindRefusal kind b =
     cond (b .begun)

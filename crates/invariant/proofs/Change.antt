@@ -48,7 +48,7 @@ use Rattle.invariant.proofs.Storable.{channelLow, channelHigh, Storable
 
 -- ---- one more setting
 
--- "OFLT 14 to 19 .. is refused while the detection frequency exceeds 200 Hz", "SEND is refused unless storage is reset"
+-- an OFLT that is allowed may stand, and a SEND that is allowed finds storage reset
 constant-valid : (s : Settings) (m : Acquisition) (v : ℕ) → valueAllowed s m oflt v ≡ true →
     timeConstantStands (detectionOf s (m .external)) v ≡ true
 unfolding valueAllowed

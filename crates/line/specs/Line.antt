@@ -23,7 +23,7 @@ pub record Tally : Type 0 where
 abbrev pub Line : Type 0
 Line = After State Tally
 
--- "4 reply bytes of this line already waiting"
+-- whether bytes of the line's reply wait already
 abbrev pub waits : List ℕ → Bool
 waits out = ltb 0 (length out)
 

@@ -55,7 +55,7 @@ withQueue q step =
       report = step .report;
     }
 
--- 11 and 9: "nothing": the state or the module stays as it was, and the refusal is reported
+-- 11 and 9: the state or the module stays as it was, and the refusal is reported
 unfoldable pub guarded : {S R : Type 0} → (Refusal → R) → Outcome → After S R → S → List ℕ → List ℕ → After S R
 guarded report outcome.Done step s one two = step
 guarded report (outcome.Refused r) step s one two = silent (report r) s one two
@@ -66,7 +66,7 @@ guarded report (outcome.Refused r) step s one two = silent (report r) s one two
 abbrev pub refusedWhole : Refusal → Report
 refusedWhole r = reportOf (answer.Refused r 0) 0
 
--- the length reported of a line: under 4 "the line's length told as 0"
+-- the length reported of a line: 0 where 4 refused a command of it
 abbrev pub reportedLength : Line → ℕ
 reportedLength l = cond (l .report .dropped) 0 (length (l .out))
 
@@ -81,7 +81,7 @@ lineRan l =
       report = reportOf (l .report .answer) (reportedLength l);
     }
 
--- 5: "line over 256 bytes": "INP set"
+-- 5, a line over the limit: INP is set
 abbrev pub longLine : State → List ℕ → List ℕ → After State Report
 longLine s one two = silent (refusedWhole LongLine) (withErrorBit LongLine s) one two
 
@@ -95,7 +95,7 @@ lineEnd ending.TooLong room text s one two = longLine s one two
 unfoldable pub wholeEnd : ℕ → LineEnd
 wholeEnd len = cond (leb len queue.lineLimit) ending.Line ending.TooLong
 
--- "A line handed over whole uses no queue; too long, it is 5 and only sets INP."
+-- a line handed over whole: the queue stays as it is; one over the limit is refused by 5, which sets INP alone
 unfoldable pub wholeLine : ℕ → List ℕ → Module → List ℕ → List ℕ → Call
 wholeLine room line m one two =
     withQueue (m .queue) (lineEnd (wholeEnd (length line)) room line (m .state) one two)
@@ -130,8 +130,7 @@ eventCall e m one two =
     guarded outcome.Refused (guardOf m (length one) (length two))
     (withQueue (m .queue) (eventOf e (m .state) one two)) m one two
 
--- a serial poll: the status byte between lines, 0 under 11, "a state outside the ranges, steps and limits
--- above"
+-- a serial poll: the status byte between lines; 0 where 11 refuses the state
 unfoldable pub pollCall : Module → PollResult
 pollCall m =
     cond (validModule m)

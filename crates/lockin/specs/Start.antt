@@ -10,12 +10,12 @@ use Rattle.queue.specs.Queue.{gpib}
 use Rattle.module.specs.Start.{installationKnown, tracesFit, freshModule}
 use Rattle.lockin.specs.declared.StartResult.{StartResult}
 
--- "a start refused by 10 or 9 gives serial 0, GPIB, capacity 1"
+-- a refused start gives the module with serial number 0, on GPIB, of the least capacity
 abbrev pub refusedStart : Refusal → StartResult
 refusedStart r =
     record { after = freshModule (installationOf 0 gpib capacityLeast); outcome = Refused r }
 
--- "Order: 10, .., 9"; the traces are not written
+-- 10 is asked before 9; the traces are not written
 unfoldable pub startCall : ℕ → ℕ → ℕ → ℕ → StartResult
 startCall serial port first second =
     cond (installationKnown serial port)

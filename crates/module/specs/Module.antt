@@ -13,7 +13,7 @@ use Rattle.storage.specs.Storage.{atRest}
 use Rattle.queue.specs.Queue as queue
 use Rattle.module.specs.declared.Module.{Module}
 
--- refusal 11: "a state outside the ranges, steps and limits above"; the queue is part of it
+-- refusal 11: the state is not valid, or the queue is not one that its port can have
 unfoldable pub validModule : Module → Bool
 validModule m = validState (m .state) && queue.isValid (m .queue) (m .state .installation .port)
 

@@ -1,5 +1,4 @@
--- Whether the state allows a command: refusal 3, "not allowed in this state (FREQ, HARM, FMOD, OFLT, SEND, TRC rules
--- above)".
+-- Whether the state allows a command (refusal 3): the rules on FREQ, HARM, FMOD, OFLT, SEND and trace reads.
 use Prim.Native.Nat.{ℕ}
 use mathlib.Core.Bool.{Bool, true, cond, _&&_}
 use lib.Dec.{eqb}
@@ -15,13 +14,12 @@ use Rattle.command.specs.declared.Kind.{Kind}
 use Rattle.command.specs.declared.Kind.the-variants.{Set, Query, Act}
 use Rattle.state.specs.declared.Acquisition.{Acquisition}
 
--- "It is at most 102 kHz in every state": whether it still is with another value at an entry
+-- whether the detection frequency is within its limit with another value at an entry
 unfoldable pub staysWithinLimit : Settings → Acquisition → ℕ → ℕ → Bool
 staysWithinLimit s m entry v = withinLimit (detectionOf (withValue s entry v) (m .external))
 
--- "FREQ (as rounded), HARM or FMOD that would break this is refused, never adjusted"; "FREQ is set only when FMOD is
--- 1."; "OFLT 14 to 19 (above 30 s) is refused while the detection frequency exceeds 200 Hz."; "SEND is refused unless
--- storage is reset"
+-- FREQ in internal mode only, and FREQ, HARM and FMOD only within the limit; OFLT by the time constants that may stand;
+-- SEND only while storage is reset; any other setting always
 unfoldable pub valueAllowed : Settings → Acquisition → ℕ → ℕ → Bool
 valueAllowed s m entry v =
     cond (eqb entry freq) (isInternal s && staysWithinLimit s m entry v)

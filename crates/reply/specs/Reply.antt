@@ -22,7 +22,7 @@ terminatedText q s waiting = textOf q s waiting ++ (terminatorOf (s .installatio
 abbrev pub traceOf : ℕ → List ℕ → List ℕ → List ℕ
 traceOf t one two = cond (eqb t 1) one two
 
--- "TRCL? i,j,k sends k words from bin j", "bin 0 is the oldest"; "Neither has a terminator"
+-- a trace read: its points from a bin on, bins counted from the oldest point; no terminator follows
 unfoldable pub traceReply : State → Form → ℕ → ℕ → ℕ → List ℕ → List ℕ → List ℕ
 traceReply s form t bin count one two =
     pointBytes form (traceOf t one two) (oldestOf (s .acquisition .storage) (s .installation .capacity) + bin) count

@@ -18,12 +18,12 @@ use Rattle.command.specs.declared.QueryArgument.the-variants.{Value, Pair, Enab
 use Rattle.command.specs.declared.QueryArgument.the-variants.{Identity, Points, Trace}
 use Rattle.state.specs.declared.State.{State}
 
--- "The one in force follows FMOD, and FREQ? replies it."
+-- the value that a query replies: for FREQ the frequency in force, by the reference's mode
 unfoldable pub valueNow : State → ℕ → ℕ
 valueNow s entry =
     cond (eqb entry freq) (inForce (s .settings) (s .acquisition .external)) (valueOf (s .settings) entry)
 
--- "whole numbers plain; PHAS and OEXP x with 2 decimals, SLVL and AUXV 3, FREQ 4; minus only below zero"
+-- with as many decimals as its row says, and a minus only below zero
 unfoldable pub valueText : State → ℕ → List ℕ
 valueText s entry = signedText (rowOf entry .decimals) (rowOf entry .bias) (valueNow s entry)
 
@@ -33,8 +33,7 @@ pairText s entry =
     let second = nextEntry entry in
     valueText s entry ++ next (rowOf second .decimals) (rowOf second .bias) (valueNow s second)
 
--- the status byte while a line runs: "1 no command running (0 within a *STB? reply)", "4 reply bytes of this line
--- already waiting"
+-- the status byte while a line runs: a command is running, and bytes of the line's reply may wait
 unfoldable pub statusNow : State → Bool → ℕ
 statusNow s waiting =
     statusByte (s .registers) (s .enables)
@@ -47,7 +46,7 @@ statusOf s waiting Service = statusNow s waiting
 statusOf s waiting Lia = registerOf (s .registers) Lia
 statusOf s waiting Errors = registerOf (s .registers) Errors
 
--- "*IDN? replies `LOCKIN,M1,s/n00042,ver1.000`, the serial in five digits."
+-- the reply to *IDN?: make and model, the serial number in five digits, the version
 unfoldable pub identityText : ℕ → List ℕ
 identityText serial = bytes "LOCKIN,M1,s/n" ++ (padded 5 serial ++ bytes ",ver1.000")
 

@@ -9,8 +9,8 @@ use Rattle.point.specs.Bytes.{littleEndian}
 use Rattle.mnemonic.specs.declared.Form.{Form}
 use Rattle.mnemonic.specs.declared.Form.the-variants.{Words, Floats}
 
--- "each command of a line is lent the reply buffer from the bytes already written onward": the room's bytes after a
--- reply are the reply's own bytes, then those that stood there
+-- a command's room begins after the bytes that the line has written: after a reply it has the reply's own bytes, then
+-- those that stood there
 unfoldable pub overwrite : List ℕ → List ℕ → List ℕ
 overwrite bytes room = bytes ++ drop (length bytes) room
 
@@ -18,7 +18,7 @@ overwrite bytes room = bytes ++ drop (length bytes) room
 unfoldable pub fitsIn : List ℕ → ℕ → Bool
 fitsIn bytes room = leb (length bytes) room
 
--- the bytes that are written: "Where nothing is written, all lent memory keeps its bytes."
+-- the bytes that are written: all, or none where they do not fit
 unfoldable pub sentBytes : List ℕ → ℕ → List ℕ
 sentBytes bytes room = cond (fitsIn bytes room) bytes []
 
@@ -27,12 +27,12 @@ sentBytes bytes room = cond (fitsIn bytes room) bytes []
 unfoldable pub wordAt : List ℕ → ℕ → ℕ
 wordAt trace place = getD trace (place % length trace) 0
 
--- "TRCL? i,j,k sends k words", "TRCB? sends the same values as IEEE single floats": a point's word as it is sent
+-- a point's word as it is sent: TRCL? sends it as it is, TRCB? as the float of the same value
 unfoldable pub formed : Form → ℕ → ℕ
 formed Words word = word
 formed Floats word = floatOf word
 
--- "TRCL? i,j,k sends k words from bin j, low byte first.": count points from a place on, four bytes each
+-- points from an index on, four bytes each, low byte first
 unfoldable pub pointBytes : Form → List ℕ → ℕ → ℕ → List ℕ
 pointBytes form trace place zero = []
 pointBytes form trace place (suc count) =

@@ -85,13 +85,13 @@ finding model (l ∷ ls) b = foundBy (lineAnswer model l b) (finding model ls (l
 abbrev pub lineNumber : ℕ → ℕ
 lineNumber i = suc i
 
--- "A script with none is 7 at line 1, place 1."
+-- what the check says of what it finds: a script without a command is 7 at line 1, place 1
 abbrev pub verdictOf : Finding → Verdict
 verdictOf fine = Fine
 verdictOf noCommand = No 1 1 NoReset
 verdictOf (stop i place r) = No (lineNumber i) place r
 
--- "a script (lines ended by LF, the last may lack it ..)": nothing after the last LF is no line
+-- the last line may lack its LF; no bytes after the last LF are no line
 unfoldable pub withoutLast : List (List ℕ) → List (List ℕ)
 withoutLast [] = []
 withoutLast (l ∷ []) = lastLine l

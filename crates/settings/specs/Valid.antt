@@ -1,4 +1,4 @@
--- The settings that a state may have: refusal 11, "a state outside the ranges, steps and limits above".
+-- The settings that a valid state may have: each value in its range and on its step, and the limits (refusal 11).
 use Prim.Native.Nat.{ℕ, zero, suc, _%_}
 use mathlib.Core.Bool.{Bool, true, _&&_}
 use lib.Dec.{leb, eqb}

@@ -81,7 +81,7 @@ withLatest l s = withParts (s .settings) (s .acquisition) (s .registers) (s .ena
 
 -- ---- the detection frequency
 
--- "The detection frequency is the harmonic times the frequency in force."
+-- the detection frequency of a state
 abbrev pub detectionNow : State → ℕ
 detectionNow s = detectionOf (s .settings) (s .acquisition .external)
 
@@ -89,8 +89,8 @@ detectionNow s = detectionOf (s .settings) (s .acquisition .external)
 abbrev pub crossingFrom : ℕ → State → Crossing
 crossingFrom old s = crossingOf old (detectionNow s) (valueOf (s .settings) oflt)
 
--- "When a command or event lifts it above 200 Hz, a time constant of 14 or more becomes 13 and LIA bit 5 is set. LIA
--- bit 4 is set at each crossing of 200 Hz": the state once its detection frequency has changed from the old one
+-- the state once its detection frequency has changed from the old one: a crossing of 200 Hz acts on the time constant
+-- and sets its LIA bits
 unfoldable pub crossedFrom : ℕ → State → State
 crossedFrom old s =
     let crossing = crossingFrom old s in

@@ -13,7 +13,7 @@ use Rattle.state.specs.declared.State.{State}
 unfoldable pub triggerOf : State → StorageStep
 triggerOf s = triggeredOf (s .acquisition .storage) (s .installation .capacity) (samplingOf (s .settings))
 
--- "A tick stores it if running at any other rate."
+-- what a tick does to storage
 unfoldable pub tickOf : State → StorageStep
 tickOf s = tickedOf (s .acquisition .storage) (s .installation .capacity) (samplingOf (s .settings))
 

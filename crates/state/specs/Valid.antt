@@ -1,5 +1,5 @@
--- The valid states: refusal 11, "a state outside the ranges, steps and limits above, its serial and port
--- included".
+-- The valid states: each part in its ranges, on its steps and within its limits, serial number and port too (refusal
+-- 11).
 use Prim.Native.Nat.{ℕ}
 use mathlib.Core.Bool.{Bool, _&&_}
 use lib.Dec.{leb}
