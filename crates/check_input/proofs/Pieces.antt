@@ -2,7 +2,7 @@
 use mathlib.Core.Path.{_≡_, sym, ap, _∙_}
 use mathlib.Core.List.{List, [], _++_}
 use Prim.Native.Nat.{ℕ}
-use Rattle.check_input.specs.Bytes.{Memory, memory, startInput, afterBytes}
+use Rattle.check_input.specs.Bytes.{Memory, memory, afterBytes}
 use Rattle.check_input.specs.declared.bytes.Input.{Input}
 use Rattle.check_input.specs.Whole.{Reads}
 use Rattle.check_input.proofs.Whole.{whole}

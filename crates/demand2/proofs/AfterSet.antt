@@ -20,7 +20,7 @@ use Rattle.command.specs.declared.Kind.the-variants.{Set}
 use Rattle.state.specs.Valid.{partsValid, validState}
 use Rattle.state.specs.State.{crossedFrom}
 use Rattle.state.specs.declared.State.{State}
-use Rattle.effect.specs.Effect.{withPair, setIn, settingsAfter, externalAfter, changedBy, stateAfter}
+use Rattle.effect.specs.Effect.{withPair, setIn, stateAfter}
 use Rattle.reply.specs.Text.{valueNow}
 
 -- every value of a valid state may be kept
@@ -61,14 +61,14 @@ module _ (t : State) (full : length (t .settings .values) ≡ entries) where
   there entry v h = getD-set-same (t .settings .values) entry v 0 (omega arith)
 
   oflt-after : (v : ℕ) → valueOf (stateAfter (Set (set.Value oflt v)) t .settings) oflt ≡ v
-  unfolding stateAfter crossedFrom changedBy settingsAfter externalAfter setIn
+  unfolding stateAfter crossedFrom setIn
   oflt-after v =
       let changed = ListN.set (t .settings .values) oflt v in
       getD-set-same changed oflt _ 0 (omega (arith, length-set (t .settings .values) oflt v))
       ∙ rw (detection-oflt (t .settings) v (t .acquisition .external), there oflt v (omega arith)) (uncrossed (detectionOf (t .settings) (t .acquisition .external)) v)
 
   other-after : (entry v : ℕ) → entry < entries → (entry ≡ oflt → ⊥) → valueOf (stateAfter (Set (set.Value entry v)) t .settings) entry ≡ v
-  unfolding stateAfter crossedFrom changedBy settingsAfter setIn
+  unfolding stateAfter crossedFrom setIn
   other-after entry v h e = getD-set-other (ListN.set (t .settings .values) entry v) oflt entry _ 0 e ∙ there entry v h
 
   -- a value that is set stands
@@ -81,7 +81,7 @@ module _ (t : State) (full : length (t .settings .values) ≡ entries) where
   -- and so does a pair past OFLT
   module _ (entry v w : ℕ) (past : oflt < entry) (inside : entry + 1 < entries) where
     pub pair-first : valueOf (stateAfter (Set (set.Pair entry v w)) t .settings) entry ≡ v
-    unfolding stateAfter crossedFrom changedBy settingsAfter setIn withPair
+    unfolding stateAfter crossedFrom setIn withPair
     pair-first =
         let first = ListN.set (t .settings .values) entry v in
         getD-set-other (ListN.set first (nextEntry entry) w) oflt entry _ 0 (omega arith)
@@ -89,7 +89,7 @@ module _ (t : State) (full : length (t .settings .values) ≡ entries) where
         ∙ there entry v (omega arith)
 
     pub pair-second : valueOf (stateAfter (Set (set.Pair entry v w)) t .settings) (nextEntry entry) ≡ w
-    unfolding stateAfter crossedFrom changedBy settingsAfter setIn withPair
+    unfolding stateAfter crossedFrom setIn withPair
     pair-second =
         let first = ListN.set (t .settings .values) entry v in
         rw (next-is entry (omega arith))

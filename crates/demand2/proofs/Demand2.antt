@@ -1,10 +1,9 @@
 -- Demand 2: a setting's reply, sent back, sets the same value. Assumes nothing.
 use Prim.Native.Nat.{ℕ, _+_, _-_, _*_, _<_, _≤_}
-use mathlib.Core.Path.{_≡_, refl, sym, ap, ap₂, _∙_}
+use mathlib.Core.Path.{_≡_, refl, ap, ap₂, _∙_}
 use mathlib.Core.Bool.{Bool, true, false, cond, true≢false}
 use mathlib.Core.List.{List, [], _∷_, _++_}
 use native.Mathlib.Omega.{arith}
-use lib.Dec.{leb}
 use lib.ListN.{length, length-append}
 use borrow.Author.Tests.{le-leb}
 use Rattle.laws.proofs.Tests.{and-first}
@@ -23,20 +22,19 @@ use Rattle.command.specs.declared.SetArgument.the-variants as set
 use Rattle.command.specs.declared.QueryArgument.{QueryArgument}
 use Rattle.command.specs.declared.QueryArgument.the-variants as query
 use Rattle.command.specs.declared.Kind.the-variants.{Set, Query}
-use Rattle.storage.specs.Storage.{isReset}
 use Rattle.state.specs.Valid.{validState}
 use Rattle.state.specs.Storing.{storedIn}
 use Rattle.state.specs.declared.State.{State}
 use Rattle.precondition.specs.Allowed.{setAllowed, queryAllowed, isAllowed}
-use Rattle.effect.specs.Effect.{registersAsked, settingsAfter, storageAfter, externalAfter, acquisitionAfter, registersAfter}
-use Rattle.effect.specs.Effect.{enablesAfter, changedBy, stateAfter}
+use Rattle.effect.specs.Effect.{registersAsked, storageAfter}
+use Rattle.effect.specs.Effect.{stateAfter}
 use Rattle.reply_buffer.specs.Buffer.{fitsIn}
 use Rattle.reply_buffer.specs.After.{silent}
 use Rattle.reply.specs.Reply.{terminatedText, queryReply, replyOf}
 use Rattle.reply.specs.Text.{valueText, pairText, textOf, terminatorOf}
 use Rattle.line.specs.Perform.{refusedBy, doneBy, performed}
 use Rattle.line.specs.Line.{startLine, afterOf}
-use Rattle.module.specs.Module.{validModule, guardOf}
+use Rattle.module.specs.Module.{validModule}
 use Rattle.module.specs.declared.Module.{Module}
 use Rattle.lockin.specs.Calls.{withQueue, lineRan, lineCall}
 use Rattle.invariant.specs.Representable.{StateFits}
@@ -67,8 +65,7 @@ data Quiet : QueryArgument → Type 0 where
 
 module _ (s : State) where
   quiet-same : (q : QueryArgument) → Quiet q → stateAfter (Query q) s ≡ s
-  unfolding stateAfter changedBy settingsAfter acquisitionAfter externalAfter storageAfter registersAfter registersAsked
-      enablesAfter
+  unfolding stateAfter registersAsked
   quiet-same _ (asValue entry) = refl
   quiet-same _ (asPair entry) = refl
   quiet-same _ (asEnable which) = refl

@@ -18,7 +18,7 @@ use Rattle.outcome.specs.declared.Answer.the-variants.{Passed, Refused}
 use Rattle.outcome.specs.Answer.{firstOf, drops}
 use Rattle.command.specs.Parsed.{parsedOf}
 use Rattle.line.specs.Perform.{commandOf}
-use Rattle.line.specs.Line.{Tally, Line, waits, startLine, afterOf, afterCommand, runAll, lineOf}
+use Rattle.line.specs.Line.{Line, waits, startLine, afterOf, afterCommand, runAll, lineOf}
 use Rattle.module.specs.Module.{guardOf}
 use Rattle.module.specs.declared.Module.{Module}
 use Rattle.lockin.specs.Calls.{withQueue, lineRan, lineCall}

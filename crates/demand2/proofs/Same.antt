@@ -1,14 +1,14 @@
 -- A value that is set where it stands already: allowed in its own state, and nothing changes. Assumes nothing.
 use Prim.Native.Nat.{ℕ, _+_, _%_, _^_, _<_}
-use mathlib.Core.Path.{_≡_, refl, sym, ap, _∙_}
+use mathlib.Core.Path.{_≡_, refl, ap, _∙_}
 use mathlib.Core.Bool.{Bool, true, false, cond, not, _&&_, _||_, true≢false}
-use mathlib.Core.List.{List, [], _∷_, List·Memᴰ·head, List·Memᴰ·tail}
+use mathlib.Core.List.{[], _∷_, List·Memᴰ·head, List·Memᴰ·tail}
 use native.Mathlib.Omega.{arith}
-use lib.Bits.{bitOr, or-zero-r}
+use lib.Bits.{or-zero-r}
 use lib.Dec.{leb, eqb}
 use lib.ListN.{set as set-at}
 use lib.Seq.{set-getD, getD-set-other}
-use borrow.Author.Tests.{eqb-true, eqb-false, ne-eqb}
+use borrow.Author.Tests.{eqb-true}
 use Rattle.laws.proofs.Tests.{and-first, and-second}
 use Rattle.mnemonic.specs.declared.Register.{Register}
 use Rattle.mnemonic.specs.declared.Register.the-variants.{Standard, Service, Lia, Errors}
@@ -20,7 +20,7 @@ use Rattle.settings.specs.declared.Settings.{Settings}
 use Rattle.storage.specs.Storage.{isReset}
 use Rattle.storage.specs.Storage as storage
 use Rattle.status.specs.Bits.{bitOf, withoutBit}
-use Rattle.status.specs.Status.{serviceUnused, enableOf, withEnableByte, withEnable}
+use Rattle.status.specs.Status.{enableOf, withEnableByte, withEnable}
 use Rattle.status.specs.Status as status
 use Rattle.status.specs.declared.Enables.{Enables}
 use Rattle.status.proofs.Bits.{apart-bits, power-here, bit-lt}
@@ -28,15 +28,15 @@ use Rattle.status.proofs.Preserved.{kept}
 use Rattle.command.specs.declared.SetArgument.{SetArgument}
 use Rattle.command.specs.declared.SetArgument.the-variants as set
 use Rattle.command.specs.declared.Kind.the-variants.{Set}
-use Rattle.state.specs.Valid.{partsValid, latestValid, installationValid, validState}
+use Rattle.state.specs.Valid.{partsValid, validState}
 use Rattle.state.specs.State.{withSettings, withRegisters, detectionNow, crossedFrom}
 use Rattle.state.specs.declared.Acquisition.{Acquisition}
 use Rattle.state.specs.declared.State.{State}
 use Rattle.precondition.specs.Allowed.{staysWithinLimit, valueAllowed, setAllowed}
-use Rattle.effect.specs.Effect.{withPair, setIn, settingsAfter, storageAfter, externalAfter, acquisitionAfter}
-use Rattle.effect.specs.Effect.{registersAfter, enablesSet, enablesAfter, changedBy, stateAfter}
-use Rattle.invariant.specs.Representable.{EnablesFit, StateFits}
-use Rattle.demand2.specs.Demand2.{Location, atEntry, atEnable, OthersStay}
+use Rattle.effect.specs.Effect.{withPair, setIn}
+use Rattle.effect.specs.Effect.{enablesSet, stateAfter}
+use Rattle.invariant.specs.Representable.{EnablesFit}
+use Rattle.demand2.specs.Demand2.{atEntry, atEnable, OthersStay}
 use Rattle.demand2.specs.Demand2.{CanRefuse, frequency, harmonic, reference, constant}
 use Rattle.demand2.specs.Demand2.{end}
 
@@ -118,7 +118,7 @@ crossed-same s = by (above200 (detectionNow s)) where
 -- a set that leaves settings and enables as they are
 set-same : (a : SetArgument) (s : State) → setIn (s .settings) a ≡ s .settings →
     enablesSet a (s .enables) ≡ s .enables → stateAfter (Set a) s ≡ s
-unfolding stateAfter changedBy settingsAfter acquisitionAfter externalAfter storageAfter registersAfter enablesAfter
+unfolding stateAfter
 set-same a s p q = rw (p, q) (crossed-same s)
 
 pub value-same : (s : State) (entry : ℕ) → stateAfter (Set (set.Value entry (valueOf (s .settings) entry))) s ≡ s
@@ -184,7 +184,7 @@ module _ (s : State) (ok : validState s ≡ true) (fit : EnablesFit (s .enables)
   pub enable-after : (t : State) (which : Register) →
       enableOf (stateAfter (Set (set.Enable which (enableOf (s .enables) which))) t .enables) which
       ≡ enableOf (s .enables) which
-  unfolding stateAfter crossedFrom changedBy enablesAfter enablesSet
+  unfolding stateAfter crossedFrom enablesSet
   enable-after t which = enable-set (t .enables) which
 
 -- ---- and values elsewhere stay
@@ -192,7 +192,7 @@ module _ (s : State) (ok : validState s ≡ true) (fit : EnablesFit (s .enables)
 module _ (t : State) where
   -- an entry that neither the set nor the crossing after it names
   pub value-others : (entry v : ℕ) → OthersStay (atEntry entry ∷ []) t (stateAfter (Set (set.Value entry v)) t)
-  unfolding stateAfter crossedFrom changedBy settingsAfter setIn enablesAfter enablesSet
+  unfolding stateAfter crossedFrom setIn enablesSet
   value-others entry v (atEntry e) apart other =
       getD-set-other (set-at (t .settings .values) entry v) oflt e _ 0 (λ z. other (ap atEntry z))
       ∙ getD-set-other (t .settings .values) entry e v 0 (λ z. apart (List·Memᴰ·head (ap atEntry z)))
@@ -200,7 +200,7 @@ module _ (t : State) where
 
   pub pair-others : (entry v w : ℕ) →
       OthersStay (atEntry entry ∷ atEntry (nextEntry entry) ∷ []) t (stateAfter (Set (set.Pair entry v w)) t)
-  unfolding stateAfter crossedFrom changedBy settingsAfter setIn withPair enablesAfter enablesSet
+  unfolding stateAfter crossedFrom setIn withPair enablesSet
   pair-others entry v w (atEntry e) apart other =
       let first = set-at (t .settings .values) entry v in
       getD-set-other (set-at first (nextEntry entry) w) oflt e _ 0 (λ z. other (ap atEntry z))
@@ -231,7 +231,7 @@ module _ (t : State) where
 
   pub enable-others : (which : Register) (v : ℕ) →
       OthersStay (atEnable which ∷ []) t (stateAfter (Set (set.Enable which v)) t)
-  unfolding stateAfter crossedFrom changedBy settingsAfter setIn enablesAfter enablesSet withEnable
+  unfolding stateAfter crossedFrom setIn enablesSet withEnable
   enable-others which v (atEntry e) apart other =
       getD-set-other (t .settings .values) oflt e _ 0 (λ z. other (ap atEntry z))
   enable-others which v (atEnable r) apart other = other-enable which r _ (λ z. apart (List·Memᴰ·head (ap atEnable z)))

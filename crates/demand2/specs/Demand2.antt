@@ -25,7 +25,6 @@ use Rattle.storage.specs.Storage.{isReset}
 use Rattle.status.specs.Status.{enableOf}
 use Rattle.outcome.specs.declared.Refusal.the-variants.{NotAllowed}
 use Rattle.outcome.specs.declared.Outcome.the-variants.{Done}
-use Rattle.outcome.specs.declared.Answer.{Answer}
 use Rattle.outcome.specs.declared.Answer.the-variants.{Passed, Refused}
 use Rattle.outcome.specs.Answer.{reportOf}
 use Rattle.state.specs.State.{withErrorBit}

@@ -20,7 +20,7 @@ use Rattle.state.specs.declared.Acquisition.{Acquisition}
 use Rattle.state.specs.declared.State.{State}
 use Rattle.precondition.specs.Allowed.{staysWithinLimit, valueAllowed, setAllowed, isAllowed}
 use Rattle.effect.specs.Effect.{withPair, setIn, isRst, restoredBy, settingsAfter, storageAfter, acquisitionAfter}
-use Rattle.effect.specs.Effect.{changedBy, stateAfter}
+use Rattle.effect.specs.Effect.{stateAfter}
 use Rattle.effect.proofs.After.{act-settings}
 pub use Rattle.effect.proofs.After.{after-acquisition, after-installation}
 
@@ -116,9 +116,7 @@ unfolding crossedFrom
 crossed-acquisition old s = refl
 
 pub after-settings : (kind : Kind) (s : State) → Alike (stateAfter kind s .settings) (settingsAfter kind (s .settings))
-unfolding stateAfter changedBy
-after-settings (Set a) s =
-    let p = storageAfter (Set a) (s .settings) (s .acquisition) (s .installation .capacity) in
-    crossed-settings (detectionNow s) (changedBy (Set a) p s)
+unfolding stateAfter settingsAfter
+after-settings (Set a) s = crossed-settings (detectionNow s) _
 after-settings (Query q) s = alike-self _
 after-settings (Act a) s = record { rest = ap (λ (x : Settings). withValue x oflt 0) (act-settings a s) }

@@ -19,9 +19,8 @@ use Rattle.settings.specs.declared.Settings.{Settings}
 use Rattle.storage.specs.Storage.{bit6, triggerStores, setsRunning, triggeredOf}
 use Rattle.storage.specs.declared.Storage.{Storage}
 use Rattle.storage.specs.declared.Sampling.{Sampling}
-use Rattle.storage.specs.declared.StorageStep.{StorageStep}
 use Rattle.status.specs.Bits.{withoutBit, withBit}
-use Rattle.status.specs.Status.{registerOf, withRegister, clearedOf, bitCleared, allCleared, withStandard, withLia, enableOf}
+use Rattle.status.specs.Status.{registerOf, withRegister, clearedOf, bitCleared, withStandard, withLia, enableOf}
 use Rattle.status.specs.Status.{withEnableByte, withEnable, withEnableBit}
 use Rattle.status.specs.declared.Registers.{Registers}
 use Rattle.status.specs.declared.Enables.{Enables}
@@ -38,8 +37,8 @@ use Rattle.command.specs.declared.Kind.the-variants.{Set, Query, Act}
 use Rattle.state.specs.State.{withRegisters, samplingOf, detectionNow, crossedFrom, withErrorBit}
 use Rattle.state.specs.Storing.{triggerOf, sampledBy}
 use Rattle.state.specs.declared.State.{State}
-use Rattle.effect.specs.Effect.{withPair, setIn, restoredBy, settingsAfter, storageBy, storageAfter, registersAsked}
-use Rattle.effect.specs.Effect.{registersBy, registersAfter, enablesSet, enablesAfter, changedBy, stateAfter}
+use Rattle.effect.specs.Effect.{withPair, setIn, storageBy, storageAfter, registersAsked}
+use Rattle.effect.specs.Effect.{enablesSet, stateAfter}
 use Rattle.effect.specs.Effect as change
 use Rattle.event.specs.Event.{takesFrequency, withExternal, notTaken, measuredBy, sampledIn, eventOf}
 use Rattle.event.specs.declared.Event.the-variants as event
@@ -160,68 +159,57 @@ crossed-sized old s k =
       enables = k .enables;
     }
 
-settings-full : (kind : Kind) (x : Settings) → length (x .values) ≡ entries
-    → length (settingsAfter kind x .values) ≡ entries
-unfolding settingsAfter setIn withPair restoredBy
-settings-full (Set (set.Value e v)) x h = length-set (x .values) e v ∙ h
-settings-full (Set (set.Pair e v w)) x h =
-    length-set (set (x .values) e v) (nextEntry e) w ∙ (length-set (x .values) e v ∙ h)
-settings-full (Set (set.Enable r v)) x h = h
-settings-full (Set (set.EnableBit r i v)) x h = h
-settings-full (Query q) x h = h
-settings-full (Act a) x h = by (change.isRst a) where
-  by : (t : Bool) → length (cond t startSettings x .values) ≡ entries
-  by true = unfold startSettings table in refl
-  by false = h
+set-full : (a : SetArgument) (x : Settings) → length (x .values) ≡ entries → length (setIn x a .values) ≡ entries
+unfolding setIn withPair
+set-full (set.Value e v) x h = length-set (x .values) e v ∙ h
+set-full (set.Pair e v w) x h = length-set (set (x .values) e v) (nextEntry e) w ∙ (length-set (x .values) e v ∙ h)
+set-full (set.Enable r v) x h = h
+set-full (set.EnableBit r i v) x h = h
 
 trigger-fits : (s : State) → RegistersFit (s .registers) → RegistersFit (withLia (s .registers) (triggerOf s .bits))
 unfolding triggerOf
 trigger-fits s k =
     lia-fits (s .registers) k _ (trigger-byte (s .acquisition .storage) (s .installation .capacity) (samplingOf (s .settings)))
 
-registers-fit : (kind : Kind) (r : Registers) → RegistersFit r → RegistersFit (registersAfter kind r)
-unfolding registersAfter registersBy
-registers-fit (Set a) r k = k
-registers-fit (Query q) r k = asked-fits r k q
-registers-fit (Act a) r k = by (change.isClear a) where
-  by : (t : Bool) → RegistersFit (cond t allCleared r)
-  by true = record { standard = omega arith; lia = omega arith; errors = omega arith }
-  by false = k
-
-enables-fit : (kind : Kind) (e : Enables) → EnablesFit e → EnablesFit (enablesAfter kind e)
-unfolding enablesAfter
-enables-fit (Set a) e k = set-fits e k a
-enables-fit (Query q) e k = k
-enables-fit (Act a) e k = k
-
-changed-sized : (kind : Kind) (p : StorageStep) (s : State) → Sized s → Sized (changedBy kind p s)
-unfolding changedBy
-changed-sized kind p s k =
-    record {
-      full = settings-full kind (s .settings) (k .full);
-      registers = registers-fit kind (s .registers) (k .registers);
-      enables = enables-fit kind (s .enables) (k .enables);
-    }
-
 -- a trigger, by the event or by TRIG
 triggered-sized : (s : State) → Sized s → Sized (sampledBy (triggerOf s) s)
 unfolding sampledBy
 triggered-sized s k = record { full = k .full; registers = trigger-fits s (k .registers); enables = k .enables }
 
+set-sized : (a : SetArgument) (s : State) → Sized s → Sized (stateAfter (Set a) s)
+unfolding stateAfter
+set-sized a s k =
+    crossed-sized (detectionNow s) _
+    (record {
+      full = set-full a (s .settings) (k .full);
+      registers = k .registers;
+      enables = set-fits (s .enables) (k .enables) a;
+    })
+
+query-sized : (q : QueryArgument) (s : State) → Sized s → Sized (stateAfter (Query q) s)
+unfolding stateAfter
+query-sized q s k =
+    record { full = k .full; registers = asked-fits (s .registers) (k .registers) q; enables = k .enables }
+
 acted-sized : (a : Action) (s : State) → Sized s → Sized (stateAfter (Act a) s)
 unfolding stateAfter storageAfter storageBy triggerOf
+acted-sized Reset s k =
+    record { full = unfold startSettings table in refl; registers = k .registers; enables = k .enables }
+acted-sized Clear s k =
+    record {
+      full = k .full;
+      registers = record { standard = omega arith; lia = omega arith; errors = omega arith };
+      enables = k .enables;
+    }
+acted-sized Start s k = record { full = k .full; registers = k .registers; enables = k .enables }
+acted-sized Pause s k = record { full = k .full; registers = k .registers; enables = k .enables }
+acted-sized Empty s k = record { full = k .full; registers = k .registers; enables = k .enables }
 acted-sized Trigger s k = triggered-sized s k
-acted-sized Reset s k = changed-sized (Act Reset) _ s k
-acted-sized Clear s k = changed-sized (Act Clear) _ s k
-acted-sized Start s k = changed-sized (Act Start) _ s k
-acted-sized Pause s k = changed-sized (Act Pause) _ s k
-acted-sized Empty s k = changed-sized (Act Empty) _ s k
 
 -- a command that is done, and one that is refused
 pub after-sized : (kind : Kind) (s : State) → Sized s → Sized (stateAfter kind s)
-after-sized (Set a) s k =
-    unfold stateAfter in crossed-sized (detectionNow s) (changedBy (Set a) _ s) (changed-sized (Set a) _ s k)
-after-sized (Query q) s k = unfold stateAfter in changed-sized (Query q) _ s k
+after-sized (Set a) s k = set-sized a s k
+after-sized (Query q) s k = query-sized q s k
 after-sized (Act a) s k = acted-sized a s k
 
 pub marked-sized : (r : Refusal) (s : State) → Sized s → Sized (withErrorBit r s)

@@ -20,14 +20,12 @@ use Rattle.command.specs.declared.QueryArgument.the-variants as query
 use Rattle.command.specs.declared.Kind.{Kind}
 use Rattle.command.specs.declared.Kind.the-variants.{Set, Query, Act}
 use Rattle.state.specs.State.{atFrequency, withStorage, withSettings, withAcquisition, withRegisters, withEnables}
-use Rattle.state.specs.State.{samplingOf, detectionNow, crossedFrom}
+use Rattle.state.specs.State.{withStorageOf, samplingOf, detectionNow, crossedFrom}
 use Rattle.state.specs.Storing.{sampledBy}
 use Rattle.state.specs.declared.Acquisition.{Acquisition}
 use Rattle.state.specs.declared.State.{State}
 
--- ---- which action it is
-
--- *RST
+-- whether an action is *RST
 abbrev pub isRst : Action → Bool
 isRst Reset = true
 isRst Clear = false
@@ -35,24 +33,6 @@ isRst Start = false
 isRst Pause = false
 isRst Empty = false
 isRst Trigger = false
-
--- *CLS
-abbrev pub isClear : Action → Bool
-isClear Clear = true
-isClear Reset = false
-isClear Start = false
-isClear Pause = false
-isClear Empty = false
-isClear Trigger = false
-
--- TRIG
-abbrev pub isTrigger : Action → Bool
-isTrigger Trigger = true
-isTrigger Reset = false
-isTrigger Clear = false
-isTrigger Start = false
-isTrigger Pause = false
-isTrigger Empty = false
 
 -- ---- the settings: a set keeps its value, *RST takes all to their start
 
@@ -110,15 +90,12 @@ externalAfter (Set a) f = f
 externalAfter (Query q) f = f
 externalAfter (Act a) f = externalBy a f
 
--- the acquisition after a command that does p to storage
-abbrev pub acquisitionBy : Kind → StorageStep → Acquisition → Acquisition
-acquisitionBy kind p m = withStorage (p .storage) (atFrequency (externalAfter kind (m .external)) m)
-
 -- the acquisition after a command
 unfoldable pub acquisitionAfter : Kind → Settings → Acquisition → ℕ → Acquisition
-acquisitionAfter kind s m capacity = acquisitionBy kind (storageAfter kind s m capacity) m
+acquisitionAfter kind s m capacity =
+    withStorage (storageAfter kind s m capacity .storage) (atFrequency (externalAfter kind (m .external)) m)
 
--- ---- the registers: the query of an event register clears it, or the one bit asked for; *CLS clears all three
+-- ---- the registers: the query of an event register clears it, or the one bit asked for
 
 -- the registers after a query
 unfoldable pub registersAsked : QueryArgument → Registers → Registers
@@ -132,16 +109,6 @@ registersAsked query.Identity r = r
 registersAsked query.Points r = r
 registersAsked (query.Trace form t bin count) r = r
 
--- the registers after an action, but for the LIA bits that TRIG sets
-unfoldable pub registersBy : Action → Registers → Registers
-registersBy a r = cond (isClear a) allCleared r
-
--- the registers after a command, but for the LIA bits that a crossing or TRIG sets
-unfoldable pub registersAfter : Kind → Registers → Registers
-registersAfter (Set a) r = r
-registersAfter (Query q) r = registersAsked q r
-registersAfter (Act a) r = registersBy a r
-
 -- ---- the enables, each set whole or bit by bit
 
 -- the enables after a set
@@ -151,28 +118,41 @@ enablesSet (set.EnableBit which i v) e = withEnableBit e which i v
 enablesSet (set.Value entry v) e = e
 enablesSet (set.Pair entry v w) e = e
 
--- the enables after a command
-unfoldable pub enablesAfter : Kind → Enables → Enables
-enablesAfter (Set a) e = enablesSet a e
-enablesAfter (Query q) e = e
-enablesAfter (Act a) e = e
-
 -- ---- the state: what no definition above changes stays
 
--- the parts that a command changes, given what it does to storage
-unfoldable pub changedBy : Kind → StorageStep → State → State
-changedBy kind p s =
-    withSettings (settingsAfter kind (s .settings))
-    (withAcquisition (acquisitionBy kind p (s .acquisition))
-    (withRegisters (registersAfter kind (s .registers))
-    (withEnables (enablesAfter kind (s .enables)) s)))
+-- the state after a set: the setting or the enable that it names, and what a crossing of 200 Hz does
+abbrev pub setBy : SetArgument → State → State
+setBy a s =
+    crossedFrom (detectionNow s) (withSettings (setIn (s .settings) a) (withEnables (enablesSet a (s .enables)) s))
 
--- the state after a command that does p to storage: a set, the one command that moves the detection frequency by its
--- value, is followed by the crossing's rule; *RST is not, so it sets no LIA bit; after TRIG it is the trigger event's
+-- the state after a query
+abbrev pub queriedBy : QueryArgument → State → State
+queriedBy q s = withRegisters (registersAsked q (s .registers)) s
+
+-- the state after *RST, which does p to storage: settings and external frequency start anew; no crossing's rule
+-- follows, so no LIA bit is set
+abbrev pub resetBy : StorageStep → State → State
+resetBy p s =
+    withStorageOf p (withSettings startSettings (withAcquisition (atFrequency externalStart (s .acquisition)) s))
+
+-- the state after *CLS, which does p to storage: all three registers are cleared
+abbrev pub clearedBy : StorageStep → State → State
+clearedBy p s = withStorageOf p (withRegisters allCleared s)
+
+-- the state after an action that does p to storage; after TRIG it is the trigger event's
+abbrev pub actedBy : Action → StorageStep → State → State
+actedBy Reset p s = resetBy p s
+actedBy Clear p s = clearedBy p s
+actedBy Start p s = withStorageOf p s
+actedBy Pause p s = withStorageOf p s
+actedBy Empty p s = withStorageOf p s
+actedBy Trigger p s = sampledBy p s
+
+-- the state after a command that does p to storage
 abbrev pub stateBy : Kind → StorageStep → State → State
-stateBy (Set a) p s = crossedFrom (detectionNow s) (changedBy (Set a) p s)
-stateBy (Query q) p s = changedBy (Query q) p s
-stateBy (Act a) p s = cond (isTrigger a) (sampledBy p s) (changedBy (Act a) p s)
+stateBy (Set a) p s = setBy a s
+stateBy (Query q) p s = queriedBy q s
+stateBy (Act a) p s = actedBy a p s
 
 -- the state after a command that is not refused
 unfoldable pub stateAfter : Kind → State → State

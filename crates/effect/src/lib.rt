@@ -1,10 +1,9 @@
 // What a command changes: the settings, what events change too, the registers and the enables.
 ghost use mathlib.Core.Path.{_≡_};
-ghost use Rattle.effect.specs.Effect.{isRst, isClear, isTrigger, withPair, setIn, restoredBy, settingsAfter};
+ghost use Rattle.effect.specs.Effect.{isRst, withPair, setIn, restoredBy, settingsAfter};
 ghost use Rattle.effect.specs.Effect.{unstored, storageBy, storageAfter, externalBy, externalAfter};
-ghost use Rattle.effect.specs.Effect.{acquisitionBy};
-ghost use Rattle.effect.specs.Effect.{acquisitionAfter, registersAsked, registersBy, registersAfter, enablesSet};
-ghost use Rattle.effect.specs.Effect.{enablesAfter, changedBy, stateBy};
+ghost use Rattle.effect.specs.Effect.{acquisitionAfter, registersAsked, enablesSet};
+ghost use Rattle.effect.specs.Effect.{setBy, queriedBy, resetBy, clearedBy, actedBy, stateBy};
 use command::Kind;
 use command::QueryArgument;
 use command::SetArgument;
@@ -49,34 +48,6 @@ pub fn is_rst(a: Action) -> bool
         Action::Pause => false,
         Action::Empty => false,
         Action::Trigger => false,
-    }
-}
-
-// Whether an action is *CLS.
-fn is_clear(a: Action) -> bool
-    ensures { λ r. ⌜ r ≡ isClear a ⌝ }
-{
-    match a {
-        Action::Clear => true,
-        Action::Reset => false,
-        Action::Start => false,
-        Action::Pause => false,
-        Action::Empty => false,
-        Action::Trigger => false,
-    }
-}
-
-// Whether an action is TRIG.
-fn is_trigger(a: Action) -> bool
-    ensures { λ r. ⌜ r ≡ isTrigger a ⌝ }
-{
-    match a {
-        Action::Trigger => true,
-        Action::Reset => false,
-        Action::Clear => false,
-        Action::Start => false,
-        Action::Pause => false,
-        Action::Empty => false,
     }
 }
 
@@ -158,22 +129,16 @@ fn external_after(external: u32, kind: Kind) -> u32
     }
 }
 
-// The acquisition after a command that does `p` to storage.
-fn acquisition_by(m: Acquisition, p: StorageStep, kind: Kind) -> Acquisition
-    ensures { λ r. ⌜ r ≡ acquisitionBy kind p m ⌝ }
+// The acquisition after a command.
+pub fn acquisition_after(s: Settings, m: Acquisition, capacity: u32, kind: Kind) -> Acquisition
+    ensures { λ r. ⌜ r ≡ acquisitionAfter kind s m capacity ⌝ }
 {
+    let p = storage_after(s, m, capacity, kind);
     let storage = p.storage;
     let mut t = m;
     t.external = external_after(m.external, kind);
     t.storage = storage;
     t
-}
-
-// The acquisition after a command.
-pub fn acquisition_after(s: Settings, m: Acquisition, capacity: u32, kind: Kind) -> Acquisition
-    ensures { λ r. ⌜ r ≡ acquisitionAfter kind s m capacity ⌝ }
-{
-    acquisition_by(m, storage_after(s, m, capacity, kind), kind)
 }
 
 // The registers after a query.
@@ -193,27 +158,6 @@ fn registers_asked(r: Registers, q: QueryArgument) -> Registers
     }
 }
 
-// The registers after an action, but for the LIA bits that TRIG sets.
-fn registers_by(r: Registers, a: Action) -> Registers
-    ensures { λ t. ⌜ t ≡ registersBy a r ⌝ }
-{
-    if is_clear(a) {
-        return status::all_cleared();
-    }
-    r
-}
-
-// The registers after a command, but for the LIA bits that a crossing or TRIG sets.
-fn registers_after(r: Registers, kind: Kind) -> Registers
-    ensures { λ t. ⌜ t ≡ registersAfter kind r ⌝ }
-{
-    match kind {
-        Kind::Set(_) => r,
-        Kind::Query(q) => registers_asked(r, q),
-        Kind::Act(a) => registers_by(r, a),
-    }
-}
-
 // The enables after a set.
 fn enables_set(e: Enables, a: SetArgument) -> Enables
     ensures { λ r. ⌜ r ≡ enablesSet a e ⌝ }
@@ -228,42 +172,65 @@ fn enables_set(e: Enables, a: SetArgument) -> Enables
     }
 }
 
-// The enables after a command.
-fn enables_after(e: Enables, kind: Kind) -> Enables
-    ensures { λ r. ⌜ r ≡ enablesAfter kind e ⌝ }
-{
-    match kind {
-        Kind::Set(a) => enables_set(e, a),
-        Kind::Query(_) => e,
-        Kind::Act(_) => e,
-    }
-}
-
-// The parts that a command changes, given what it does to storage.
-fn changed(s: State, kind: Kind, p: StorageStep) -> State
-    ensures { λ r. ⌜ r ≡ changedBy kind p s ⌝ }
+// The state after a set: what it names, and what a crossing of 200 Hz does.
+fn set_state(s: State, a: SetArgument) -> State
+    ensures { λ r. ⌜ r ≡ setBy a s ⌝ }
 {
     let mut t = s;
-    t.settings = settings_after(s.settings, kind);
-    t.acquisition = acquisition_by(s.acquisition, p, kind);
-    t.registers = registers_after(s.registers, kind);
-    t.enables = enables_after(s.enables, kind);
+    t.enables = enables_set(s.enables, a);
+    t.settings = set_in(s.settings, a);
+    state::crossed(t, state::detection_now(s))
+}
+
+// The state after a query.
+fn queried(s: State, q: QueryArgument) -> State
+    ensures { λ r. ⌜ r ≡ queriedBy q s ⌝ }
+{
+    let mut t = s;
+    t.registers = registers_asked(s.registers, q);
     t
+}
+
+// The state after *RST, which does `p` to storage.
+fn reset(s: State, p: StorageStep) -> State
+    ensures { λ r. ⌜ r ≡ resetBy p s ⌝ }
+{
+    let mut t = s;
+    t.settings = Settings::start();
+    t.acquisition.external = Settings::FREQUENCY_START;
+    state::with_storage_of(t, p)
+}
+
+// The state after *CLS, which does `p` to storage.
+fn cleared(s: State, p: StorageStep) -> State
+    ensures { λ r. ⌜ r ≡ clearedBy p s ⌝ }
+{
+    let mut t = s;
+    t.registers = status::all_cleared();
+    state::with_storage_of(t, p)
+}
+
+// The state after an action that does `p` to storage.
+fn acted(s: State, a: Action, p: StorageStep) -> State
+    ensures { λ r. ⌜ r ≡ actedBy a p s ⌝ }
+{
+    match a {
+        Action::Reset => reset(s, p),
+        Action::Clear => cleared(s, p),
+        Action::Start => state::with_storage_of(s, p),
+        Action::Pause => state::with_storage_of(s, p),
+        Action::Empty => state::with_storage_of(s, p),
+        Action::Trigger => state::sampled(s, p),
+    }
 }
 
 // The state after a command that is not refused, `p` being what it does to storage.
 pub fn state_after(s: State, kind: Kind, p: StorageStep) -> State
     ensures { λ r. ⌜ r ≡ stateBy kind p s ⌝ }
 {
-    let next = changed(s, kind, p);
     match kind {
-        Kind::Set(_) => state::crossed(next, state::detection_now(s)),
-        Kind::Query(_) => next,
-        Kind::Act(a) => {
-            if is_trigger(a) {
-                return state::sampled(s, p);
-            }
-            next
-        }
+        Kind::Set(a) => set_state(s, a),
+        Kind::Query(q) => queried(s, q),
+        Kind::Act(a) => acted(s, a, p),
     }
 }

@@ -24,7 +24,7 @@ use Rattle.state.specs.State.{startState, crossedFrom, withErrorBit, samplingOf
 use Rattle.state.specs.Storing.{sampledBy, storedIn}
 use Rattle.state.specs.Valid.{installationValid, latestValid, partsValid, validState}
 use Rattle.precondition.specs.Allowed.{staysWithinLimit, valueAllowed, setAllowed, queryAllowed, isAllowed}
-use Rattle.effect.specs.Effect.{setIn, restoredBy, settingsAfter, storageBy, storageAfter, acquisitionAfter, changedBy, stateAfter}
+use Rattle.effect.specs.Effect.{setIn, restoredBy, settingsAfter, storageBy, storageAfter, acquisitionAfter, stateAfter}
 use Rattle.reply.specs.Text.{valueNow, valueText, textOf}
 use Rattle.reply.specs.Reply.{terminatedText, traceReply, queryReply, replyOf}
 use Rattle.outcome.specs.Answer.{firstOf, isNoRoom, drops, numbered, numbersOf}
@@ -54,7 +54,7 @@ unfolding span onHead parts allDigits begins unsigned isMantissa isNumber decima
     storage.isValid meets status.isValid
     startState crossedFrom withErrorBit samplingOf sampledBy storedIn installationValid latestValid partsValid validState
     staysWithinLimit valueAllowed setAllowed queryAllowed isAllowed
-    setIn restoredBy settingsAfter storageBy storageAfter acquisitionAfter changedBy stateAfter
+    setIn restoredBy settingsAfter storageBy storageAfter acquisitionAfter stateAfter
     valueNow valueText textOf terminatedText traceReply queryReply replyOf
     doneBy performed commandOf firstOf isNoRoom drops line.afterOf line.afterCommand line.runAll line.lineOf
     latestTaken eventOf queue.noEnd queue.isValid

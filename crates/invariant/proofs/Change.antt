@@ -41,9 +41,9 @@ use Rattle.state.proofs.Sound.{Tuning, Stored, sound, sound-valid, with-acquisi
 use Rattle.state.proofs.Sound.{reset-valid, crossed-valid, trigger-valid}
 use Rattle.precondition.specs.Allowed.{valueAllowed, setAllowed, isAllowed}
 use Rattle.precondition.proofs.Limit.{limit-after}
-use Rattle.effect.specs.Effect.{withPair, setIn, restoredBy, settingsAfter, storageBy, storageAfter, externalBy}
-use Rattle.effect.specs.Effect.{externalAfter, registersAsked, registersBy, registersAfter, enablesSet, enablesAfter}
-use Rattle.effect.specs.Effect.{changedBy, stateAfter}
+use Rattle.effect.specs.Effect.{withPair, setIn, storageBy, storageAfter}
+use Rattle.effect.specs.Effect.{registersAsked, enablesSet}
+use Rattle.effect.specs.Effect.{stateAfter}
 use Rattle.invariant.proofs.Storable.{channelLow, channelHigh, StorableSet, Storable}
 
 -- ---- one more setting
@@ -118,8 +118,7 @@ module _ (s : State) (h : validState s ≡ true) where
 
   set-stays : (a : SetArgument) → StorableSet a → setAllowed (s .settings) (s .acquisition) a ≡ true →
       validState (stateAfter (Set a) s) ≡ true
-  unfolding stateAfter changedBy settingsAfter setIn withPair externalAfter storageAfter registersAfter enablesAfter
-      enablesSet setAllowed
+  unfolding stateAfter setIn withPair enablesSet setAllowed
   set-stays (set.Value entry v) k p =
       settings-stay (withValue (s .settings) entry v) (s .enables)
       (value-holds (detectionNow s) (s .settings) (s .acquisition) (s .installation .capacity) holds-now entry v k refl p)
@@ -166,12 +165,11 @@ module _ (s : State) (h : validState s ≡ true) where
   query-registers (query.Trace form t bin count) = sound s h .bits
 
   query-stays : (q : QueryArgument) → validState (stateAfter (Query q) s) ≡ true
-  unfolding stateAfter changedBy settingsAfter externalAfter storageAfter registersAfter enablesAfter
+  unfolding stateAfter
   query-stays q = registers-stay (registersAsked q (s .registers)) (query-registers q)
 
   act-stays : (a : Action) → validState (stateAfter (Act a) s) ≡ true
-  unfolding stateAfter changedBy settingsAfter restoredBy externalAfter externalBy storageAfter storageBy registersAfter
-      registersBy enablesAfter triggerOf
+  unfolding stateAfter storageAfter storageBy triggerOf
   act-stays Reset = reset-valid s h
   act-stays Clear = registers-stay status.allCleared (all-cleared-keeps (s .registers) (s .enables) (sound s h .bits))
   act-stays Start =

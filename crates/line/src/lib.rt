@@ -67,9 +67,10 @@ fn perform(
         if fits {
             let installation = s.installation;
             let p = effect::storage_after(s.settings, acquisition, installation.capacity, kind);
+            let next = effect::state_after(s, kind, p);
             state::store(s, p, one, two);
             return CommandResult {
-                state: effect::state_after(s, kind, p),
+                state: next,
                 written: sent.written,
                 outcome: Outcome::Done,
             };

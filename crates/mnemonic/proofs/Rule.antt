@@ -1,7 +1,7 @@
 -- A rule on what the names stand for is one test that computes over their list. Assumes nothing.
 use Prim.Native.Nat.{ℕ}
 use mathlib.Core.Path.{_≡_, refl, sym}
-use mathlib.Core.Bool.{Bool, true, false, true≢false, cond, _&&_, _||_, and-eq-true-iff}
+use mathlib.Core.Bool.{Bool, true, false, true≢false, cond, _||_, and-eq-true-iff}
 use mathlib.Core.List.{List, [], _∷_, foldr}
 use lib.Dec.{eqb}
 use borrow.Author.Tests.{eqb-true}

@@ -33,8 +33,8 @@ use Rattle.state.specs.Storing.{triggerOf, tickOf, sampledBy, storedIn}
 use Rattle.state.specs.Valid.{latestValid, validState}
 use Rattle.state.specs.declared.State.{State}
 use Rattle.precondition.specs.Allowed.{valueAllowed, setAllowed, isAllowed}
-use Rattle.effect.specs.Effect.{withPair, setIn, restoredBy, settingsAfter, storageBy, storageAfter}
-use Rattle.effect.specs.Effect.{changedBy, stateAfter}
+use Rattle.effect.specs.Effect.{withPair, setIn, storageBy, storageAfter}
+use Rattle.effect.specs.Effect.{stateAfter}
 use Rattle.reply_buffer.specs.Buffer.{fitsIn}
 use Rattle.reply.specs.Reply.{replyOf}
 use Rattle.line.specs.Perform.{Effect, doneBy, performed, commandOf}
@@ -259,21 +259,20 @@ module _ (history : History) (s : State) (one two : List ℕ) (h : Holds history
   settings-set (set.EnableBit r i v) k p shot = h .whole shot
 
   set-holds : (a : SetArgument) → StorableSet a → setAllowed (s .settings) (s .acquisition) a ≡ true → As (stateAfter (Set a) s)
-  unfolding stateAfter changedBy crossedFrom settingsAfter storageAfter
+  unfolding stateAfter crossedFrom
   set-holds a k p =
       same-holds history s (stateAfter (Set a) s) one two h refl (record { held = refl; next = refl })
       (λ shot.
       settings-set a k p (sym (getD-set-other (setIn (s .settings) a .values) oflt send _ 0 (omega arith)) ∙ shot))
 
   query-holds : (q : QueryArgument) → As (stateAfter (Query q) s)
-  unfolding stateAfter changedBy settingsAfter storageAfter
+  unfolding stateAfter
   query-holds q = like-holds history s (stateAfter (Query q) s) one two h refl refl refl
 
   act-holds : (a : Action) (reply : List ℕ) →
       let e = doneBy (Act a) reply s one two in
       Holds (afterAction a s history) (e .after) (e .one) (e .two)
-  unfolding doneBy stateAfter changedBy settingsAfter restoredBy sampledBy storageAfter storageBy storedIn triggerOf
-      afterAction
+  unfolding doneBy stateAfter sampledBy storageAfter storageBy storedIn triggerOf afterAction
   act-holds action.Reset reply = emptied-holds (stateAfter (Act action.Reset) s) one two refl
   act-holds action.Empty reply = emptied-holds (stateAfter (Act action.Empty) s) one two refl
   act-holds action.Trigger reply =

@@ -24,8 +24,8 @@ use Rattle.command.specs.declared.Kind.the-variants.{Query}
 use Rattle.storage.specs.Storage.{oldestOf, holdsOf}
 use Rattle.state.specs.declared.State.{State}
 use Rattle.precondition.specs.Allowed.{queryAllowed}
-use Rattle.effect.specs.Effect.{settingsAfter, storageAfter, externalAfter, acquisitionAfter, registersAsked, registersAfter}
-use Rattle.effect.specs.Effect.{enablesAfter, changedBy, stateAfter}
+use Rattle.effect.specs.Effect.{registersAsked}
+use Rattle.effect.specs.Effect.{stateAfter}
 use Rattle.reply_buffer.specs.Buffer.{wordAt, pointBytes}
 use Rattle.reply.specs.Text.{textOf, terminatorOf}
 use Rattle.reply.specs.Reply.{terminatedText, traceOf, traceReply, queryReply}
@@ -102,13 +102,11 @@ says-trace form t bin count = trace-asked (traceName form) (trace-name form) for
 -- ---- neither changes the state
 
 pub points-same : (s : State) → stateAfter (Query query.Points) s ≡ s
-unfolding stateAfter changedBy settingsAfter acquisitionAfter externalAfter storageAfter registersAfter registersAsked
-    enablesAfter
+unfolding stateAfter registersAsked
 points-same s = refl
 
 pub trace-same : (s : State) (form : Form) (t bin count : ℕ) → stateAfter (Query (query.Trace form t bin count)) s ≡ s
-unfolding stateAfter changedBy settingsAfter acquisitionAfter externalAfter storageAfter registersAfter registersAsked
-    enablesAfter
+unfolding stateAfter registersAsked
 trace-same s form t bin count = refl
 
 -- ---- the replies

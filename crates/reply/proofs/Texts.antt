@@ -9,7 +9,7 @@ use lib.Seq.{take-suc}
 use Rattle.split.specs.Ascii.{bytes}
 use Rattle.settings.specs.Table.{rowOf}
 use Rattle.settings.proofs.Rows.{row-size, row-decimals}
-use Rattle.format.specs.Text.{plain, padded, distance, signedText}
+use Rattle.format.specs.Text.{plain, padded, signedText}
 use Rattle.format.specs.Parts.{textLimit, appended}
 use Rattle.format.proofs.Appended.{added-join, added-fits}
 use Rattle.format.proofs.Digits.{padded-length}

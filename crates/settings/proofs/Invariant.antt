@@ -1,7 +1,7 @@
 -- What an argument sets a state may keep, so that no command leads to refusal 11. Assumes nothing.
 use Prim.Native.Nat.{ℕ, _+_, _*_, _%_, _<_, _≤_}
 use mathlib.Core.Path.{_≡_, refl, sym}
-use mathlib.Core.Bool.{Bool, true, false, true≢false, cond, _&&_, _||_}
+use mathlib.Core.Bool.{Bool, true, false, true≢false, cond, _||_}
 use native.Mathlib.Omega.{arith}
 use native.Mathlib.Nat.{zero-mod, mod-one}
 use lib.Dec.{T, leb, ltb, eqb, eqb→eq, leb→le}
@@ -12,13 +12,12 @@ use Rattle.number.specs.Value.{Exact, exactOf, rounded, argumentOf}
 use Rattle.number.specs.declared.Range.{Range}
 use Rattle.number.specs.declared.Argument.{Argument}
 use Rattle.number.specs.declared.Argument.the-variants.{Value, Refused}
-use Rattle.laws.proofs.Tests.{and-first, and-second}
 use Rattle.number.proofs.Exact.{under-pos}
 use Rattle.settings.specs.Limits.{hertz, frequencyLow, frequencyHigh}
-use Rattle.settings.specs.Table.{entries, table, rowOf, noRow, phase, frequency, turnedOf, valueOf, withValue}
+use Rattle.settings.specs.Table.{entries, table, rowOf, phase, frequency, turnedOf, valueOf, withValue}
 use Rattle.settings.specs.Frequency.{stepBy, frequencyStep}
 use Rattle.settings.specs.Setting.{stepWith, rangeWith, exactStep, turnedAt, settingOf, stepOf}
-use Rattle.settings.specs.Valid.{valueValid, every, valuesValid}
+use Rattle.settings.specs.Valid.{valueValid, valuesValid}
 use Rattle.settings.specs.Invariant.{SettingValid, WithValid}
 use Rattle.settings.proofs.Rows.{row-rule, row-step, frequency-row, phase-row}
 use Rattle.settings.proofs.Every.{every-at, every-of}

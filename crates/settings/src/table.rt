@@ -3,7 +3,7 @@
 ghost use mathlib.Core.Path.{_≡_};
 ghost use mathlib.Core.List.{map};
 ghost use Prim.Native.Nat.{_+_, _^_, _<_};
-ghost use Rattle.settings.specs.Table.{plainRow, wholeRow, signed, phase, frequency, level, table, rowOf};
+ghost use Rattle.settings.specs.Table.{plainRow, wholeRow, signed, phase, frequency, table, rowOf};
 use super::ENTRIES;
 use super::Row;
 use super::Settings;

@@ -8,6 +8,7 @@ use Rattle.settings.specs.declared.Crossing.{Crossing}
 use Rattle.storage.specs.Storage.{emptiedStorage}
 use Rattle.storage.specs.declared.Storage.{Storage}
 use Rattle.storage.specs.declared.Sampling.{Sampling}
+use Rattle.storage.specs.declared.StorageStep.{StorageStep}
 use Rattle.status.specs.Status.{startRegisters, startEnables, withLia, withStandard}
 use Rattle.outcome.specs.Code.{codeOf}
 use Rattle.outcome.specs.declared.Refusal.{Refusal}
@@ -78,6 +79,10 @@ withEnables e s = withParts (s .settings) (s .acquisition) (s .registers) e (s .
 -- a state with another latest pair
 abbrev pub withLatest : Pair → State → State
 withLatest l s = withParts (s .settings) (s .acquisition) (s .registers) (s .enables) l s
+
+-- a state with the storage that a step leaves
+abbrev pub withStorageOf : StorageStep → State → State
+withStorageOf p s = withAcquisition (withStorage (p .storage) (s .acquisition)) s
 
 -- ---- the detection frequency
 

@@ -6,7 +6,7 @@ use lib.ListN.{set}
 use Rattle.storage.specs.Storage.{triggeredOf, tickedOf}
 use Rattle.storage.specs.declared.StorageStep.{StorageStep}
 use Rattle.status.specs.Status.{withLia}
-use Rattle.state.specs.State.{withStorage, withAcquisition, withRegisters, samplingOf}
+use Rattle.state.specs.State.{withRegisters, withStorageOf, samplingOf}
 use Rattle.state.specs.declared.State.{State}
 
 -- what a trigger does to storage, by the event and by TRIG
@@ -19,8 +19,7 @@ tickOf s = tickedOf (s .acquisition .storage) (s .installation .capacity) (sampl
 
 -- the state after a trigger, TRIG or a tick: storage, and the LIA bits that it sets
 unfoldable pub sampledBy : StorageStep → State → State
-sampledBy p s =
-    withRegisters (withLia (s .registers) (p .bits)) (withAcquisition (withStorage (p .storage) (s .acquisition)) s)
+sampledBy p s = withRegisters (withLia (s .registers) (p .bits)) (withStorageOf p s)
 
 -- "they store the latest pair": a trace after a trigger or a tick, where the latest pair has the word w for it; the
 -- state is the one before

@@ -2,7 +2,7 @@
 // at start.
 ghost use mathlib.Core.Path.{_≡_};
 ghost use Rattle.state.specs.State.{startAcquisition, startState, detectionNow, crossedFrom, withErrorBit};
-ghost use Rattle.state.specs.State.{samplingOf};
+ghost use Rattle.state.specs.State.{withStorageOf, samplingOf};
 ghost use Rattle.state.specs.Storing.{triggerOf, tickOf, sampledBy, storedIn};
 ghost use Rattle.state.specs.Valid.{installationValid, latestValid, partsValid, validState};
 use outcome::Refusal;
@@ -158,17 +158,25 @@ pub fn tick_of(s: State) -> StorageStep
     )
 }
 
-// The state after a trigger or a tick.
-pub fn sampled(s: State, p: StorageStep) -> State
-    ensures { λ r. ⌜ r ≡ sampledBy p s ⌝ }
+// The state with the storage that a step leaves.
+pub fn with_storage_of(s: State, p: StorageStep) -> State
+    ensures { λ r. ⌜ r ≡ withStorageOf p s ⌝ }
 {
     let storage = p.storage;
     let mut acquisition = s.acquisition;
     acquisition.storage = storage;
     let mut t = s;
     t.acquisition = acquisition;
-    t.registers = status::with_lia(s.registers, p.bits);
     t
+}
+
+// The state after a trigger or a tick.
+pub fn sampled(s: State, p: StorageStep) -> State
+    ensures { λ r. ⌜ r ≡ sampledBy p s ⌝ }
+{
+    let mut t = s;
+    t.registers = status::with_lia(s.registers, p.bits);
+    with_storage_of(t, p)
 }
 
 // Stores the latest pair of the state in the slot that its next point goes to, where a trigger or a tick stores it.

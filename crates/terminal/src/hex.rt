@@ -6,9 +6,6 @@ use crate::field::decode_number;
 use crate::output::write_byte;
 use crate::output::write_bytes;
 
-// How many hex digits a byte has.
-const BYTE_DIGITS: usize = 2;
-
 // The largest byte.
 const LAST_BYTE: u32 = u8::MAX as u32;
 
@@ -68,6 +65,21 @@ pub fn write_hex(out: &mut [u8], at: usize, value: u64, least: usize) -> usize {
     write_bytes(out, at, &digits[0..n])
 }
 
+// The hex digit of a number's last four bits.
+fn digit_of(value: u8) -> u8 {
+    let digit = value % 16;
+    if digit < 10 {
+        return b'0' + digit;
+    }
+    b'a' + (digit - 10)
+}
+
+// Writes a byte as two hex digits.
+fn write_hex_byte(out: &mut [u8], at: usize, b: u8) -> usize {
+    let second = write_byte(out, at, digit_of(b / 16));
+    write_byte(out, second, digit_of(b))
+}
+
 // Writes bytes in hex, `-` where there are none.
 pub fn write_hex_bytes(out: &mut [u8], at: usize, bytes: &[u8]) -> usize {
     if bytes.len() == 0 {
@@ -76,7 +88,7 @@ pub fn write_hex_bytes(out: &mut [u8], at: usize, bytes: &[u8]) -> usize {
     let mut end = at;
     let mut i = 0;
     while i < bytes.len() {
-        end = write_hex(out, end, bytes[i] as u64, BYTE_DIGITS);
+        end = write_hex_byte(out, end, bytes[i]);
         i += 1;
     }
     end

@@ -26,7 +26,9 @@ pub fn bytes_from(bytes: &[u8], n: usize) -> &[u8]
 
 // Writes out the first `len` bytes of a buffer.
 pub fn flush(out: &[u8], len: usize) {
-    io::write_all(STDOUT_FILENO, first_bytes(out, len));
+    if 0 < len {
+        io::write_all(STDOUT_FILENO, first_bytes(out, len));
+    }
 }
 
 // Writes a byte.

@@ -9,24 +9,25 @@ use Rattle.line.proofs.perform.Tie as tie
 
 same-length-3 : tie.Need-same-length-3
 same-length-3 c =
-    let stored = c .before .before .before .before .before in
-    stored .before .before .before .before .before .before .before .before .send-reply .kept .1 .1 .1 .1 .1 .0
+    let next = c .before .before .before .before .before .before .before in
+    let fits = next .before .before .before in
+    fits .before .before .before .send-reply .kept .1 .1 .1 .1 .1 .0
 
 returns : tie.Need-returns
 unfolding stateAfter
 returns c =
-    let stored = c .before .before .before .before .before in
-    let sampled = stored .before .before .before in
-    let fits = sampled .before .before in
+    let stored = c .before .before .before .before in
+    let next = stored .before .before .before in
+    let fits = next .before .before .before in
     let sent = fits .before .before .before .send-reply in
     let allowed = fits .before .before .before .before .before .before .before in
     let a = allowed .before .before .before .before .before .before .args in
     let out = sent .ensures in (
       rw (
-        c .state-after .ensures,
+        next .state-after .ensures,
         stored .store .ensures .0,
         stored .store .ensures .1,
-        sampled .storage-after .ensures,
+        next .before .storage-after .ensures,
       )
           (done (a .waiting) (a .c .kind) (a .s) _ _ out
           (sym (allowed .before .is-allowed .ensures) ∙ allowed .if1 .taken) (fits .if2 .taken)),

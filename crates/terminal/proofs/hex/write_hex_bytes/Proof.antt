@@ -3,7 +3,6 @@
 use Prim.Native.Nat.{_≤_, _-_}
 use mathlib.Core.Path.{_≡_}
 use lib.ListN.{length}
-use native.Mathlib.Omega.{arith}
 use borrow.Author.Needs.{needs}
 use Rattle.terminal.proofs.hex.write_hex_bytes.Statement.{statement}
 use Rattle.terminal.proofs.hex.write_hex_bytes.Tie as tie
@@ -14,12 +13,9 @@ Inv-loop out₀ at bytes end₀ i₀ out end i = (length out ≡ length out₀) 
 abbrev μ-loop : tie.MeasureT-loop
 μ-loop out₀ at bytes end₀ i₀ out end i = length bytes - i
 
-cast-write-hex : tie.Need-cast-write-hex Inv-loop μ-loop
-cast-write-hex c = omega (arith, c .shared-slice-known2 .given (c .before .before .before .loop .i))
-
 pub write-hex-bytes-spec : {M : Type 1} → statement M
 write-hex-bytes-spec =
     tie.close
     (tie.spec Inv-loop μ-loop (λ c κs. search needs) (λ c. search needs) (λ c. search needs) (λ c. search needs)
-    (λ c. search needs) cast-write-hex (λ c κs. search needs) (λ c. search needs) (λ c. search needs)
+    (λ c. search needs) (λ c κs. search needs) (λ c. search needs) (λ c. search needs)
     (λ c. search needs) (λ c. search needs) (λ c. search needs))
