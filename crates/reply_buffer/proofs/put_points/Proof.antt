@@ -27,8 +27,9 @@ loop-holds c = (omega arith, rw (add-zero, sub-zero) refl, refl)
 
 loop-again : tie.Need-loop-again Inv-loop μ-loop
 loop-again c =
-    let v = c .before .before .before .before .before .before .before .loop in
-    let a = c .before .before .before .before .before .before .before .before .before .before .args in
+    let loop = c .before .before .before .before .before .before .before in
+    let v = loop .loop in
+    let a = loop .before .before .before .args in
     let p = c .before .before .put-word in
     let x = c .before .before .before .before .formed-word in
     let e : x .result ≡ formed (a .form) (wordAt (a .trace .now) (a .first + v .i)) =

@@ -8,28 +8,56 @@ use Rattle.number.proofs.text.read_digits.Statement.{statement}
 use Rattle.number.proofs.text.read_digits.Tie as tie
 
 returns : tie.Need-returns
-returns c = let a = c .before .before .before .args in digits-few (a .negative) (a .front .now) (a .back .now) (a .up) (a .down) (c .if1 .taken)
+returns c =
+    let a = c .before .before .before .args in
+    digits-few (a .negative) (a .front .now) (a .back .now) (a .up) (a .down) (c .if1 .taken)
 
 returns-2 : tie.Need-returns-2
-returns-2 c = let a = c .before .before .before .before .args in digits-many (a .negative) (a .front .now) (a .back .now) (a .up) (a .down) (c .before .if1 .left) (c .if2 .taken)
+returns-2 c =
+    let a = c .before .before .before .before .args in
+    digits-many (a .negative) (a .front .now) (a .back .now) (a .up) (a .down) (c .before .if1 .left) (c .if2 .taken)
 
 scaled-requires : tie.Need-scaled-requires
-scaled-requires c κs = let a = c .before .before .before .before .before .before .before .before .args in (digits-both (a .front .now) (a .back .now) (sym (c .before .before .before .all-digits .ensures) ∙ c .before .before .if3 .taken) (sym (c .before .all-digits2 .ensures) ∙ c .if4 .taken), c .before .before .before .before .if2 .left, c .before .before .before .before .before .before .before .before .pre)
+scaled-requires c κs =
+    let front = c .before .before in
+    let counted = front .before .before in
+    let start = counted .before .before .before .before in
+    let a = start .args in (
+      digits-both (a .front .now) (a .back .now) (sym (front .before .all-digits .ensures) ∙ front .if3 .taken)
+          (sym (c .before .all-digits2 .ensures) ∙ c .if4 .taken),
+      counted .if2 .left,
+      start .pre,
+    )
 
 returns-3 : tie.Need-returns-3
-returns-3 c = let a = c .before .before .before .before .before .before .before .before .before .args in
+returns-3 c =
+    let back = c .before in
+    let front = back .before .before in
+    let counted = front .before .before in
+    let a = counted .before .before .before .before .args in
     rw (c .scaled .ensures)
-    (sym (digits-read (a .negative) (a .front .now) (a .back .now) (a .up) (a .down) (c .before .before .before .before .before .before .if1 .left) (c .before .before .before .before .before .if2 .left) true
-    (digits-both (a .front .now) (a .back .now) (sym (c .before .before .before .before .all-digits .ensures) ∙ c .before .before .before .if3 .taken) (sym (c .before .before .all-digits2 .ensures) ∙ c .before .if4 .taken))))
+    (sym
+    (digits-read (a .negative) (a .front .now) (a .back .now) (a .up) (a .down) (counted .before .if1 .left)
+    (counted .if2 .left) true
+    (digits-both (a .front .now) (a .back .now) (sym (front .before .all-digits .ensures) ∙ front .if3 .taken)
+    (sym (back .before .all-digits2 .ensures) ∙ back .if4 .taken))))
 
 returns-4 : tie.Need-returns-4
-returns-4 c = let a = c .before .before .before .before .before .before .before .before .args in
-    sym (digits-read (a .negative) (a .front .now) (a .back .now) (a .up) (a .down) (c .before .before .before .before .before .if1 .left) (c .before .before .before .before .if2 .left) false
+returns-4 c =
+    let counted = c .before .before .before .before in
+    let a = counted .before .before .before .before .args in
+    sym
+    (digits-read (a .negative) (a .front .now) (a .back .now) (a .up) (a .down) (counted .before .if1 .left)
+    (counted .if2 .left) false
     (digits-not-second (a .front .now) (a .back .now) (sym (c .before .all-digits2 .ensures) ∙ c .if4 .left)))
 
 returns-5 : tie.Need-returns-5
-returns-5 c = let a = c .before .before .before .before .before .before .args in
-    sym (digits-read (a .negative) (a .front .now) (a .back .now) (a .up) (a .down) (c .before .before .before .if1 .left) (c .before .before .if2 .left) false
+returns-5 c =
+    let counted = c .before .before in
+    let a = counted .before .before .before .before .args in
+    sym
+    (digits-read (a .negative) (a .front .now) (a .back .now) (a .up) (a .down) (counted .before .if1 .left)
+    (counted .if2 .left) false
     (digits-not-first (a .front .now) (a .back .now) (sym (c .before .all-digits .ensures) ∙ c .if3 .left)))
 
 pub read-digits-spec : {M : Type 1} → statement M
