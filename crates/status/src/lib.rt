@@ -12,6 +12,9 @@ use mnemonic::Register;
 // PON, power on: standard event bit 7, the one that is set at start.
 const PON: u8 = 0x80;
 
+// An event register with no bit set.
+const CLEARED: u8 = 0;
+
 // The LIA bits that an event may raise: 0 to 3.
 const LIA_RAISED: u8 = 0x0F;
 
@@ -202,9 +205,9 @@ pub fn all_cleared() -> Registers
     ensures { λ x. ⌜ x ≡ allCleared ⌝ }
 {
     Registers {
-        standard: 0,
-        lia: 0,
-        errors: 0,
+        standard: CLEARED,
+        lia: CLEARED,
+        errors: CLEARED,
     }
 }
 
