@@ -1,4 +1,4 @@
--- Replies and numbers of document 01 as texts, by computation. Assumes nothing.
+-- Replies of the manual's examples (§4.6, §11.1) as texts, by computation. Assumes nothing.
 use mathlib.Core.Path.{_≡_, refl}
 use Rattle.split.specs.Ascii.{bytes}
 use Rattle.format.specs.Text.{padded, digitCountIn, plain, fixed, sign, signedText}

@@ -1,4 +1,5 @@
--- How long a number's text is at most: a value below 10 ^ 10 takes 12 bytes, so that two of them and a "," fit. Assumes nothing.
+-- How long a number's text is at most: a value below 10 ^ 10 takes 12 bytes, so that two of them and a "," fit.
+-- Assumes nothing.
 use Prim.Native.Nat.{ℕ, _+_, _^_, _≤_, _<_}
 use native.Mathlib.Omega.{arith}
 use lib.Dec.{ltb, eqb}

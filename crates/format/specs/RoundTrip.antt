@@ -1,5 +1,5 @@
--- The promise on replies' numbers, once over the decimals, proved in `proofs/RoundTrip.antt`: what is written, read
--- again, is the same value. Assumes nothing.
+-- The promise on replies' numbers (§4.7), once over the decimals, proved in `proofs/RoundTrip.antt`: what is written,
+-- read again, is the same value. Assumes nothing.
 use Prim.Native.Nat.{ℕ, _^_, _<_}
 use mathlib.Core.Bool.{Bool, true, false}
 use mathlib.Core.Path.{_≡_}
@@ -14,8 +14,8 @@ use Rattle.format.specs.Text.{distance, signedText}
 abbrev pub exactly : Bool → ℕ → Reading
 exactly negative n = Number (record { negative = negative; whole = n; half = false; exact = true })
 
--- the text of v, which has the bias added, read in the same units, is the distance of v and the bias, below zero where
--- v is below the bias. The decimals are fewer than the digits that a number may have, since one is before the point
+-- §4.7: the text of v, which has the bias added, read in the same units, is the distance of v and the bias, below zero
+-- where v is below the bias. The decimals are fewer than the digits of a number, since one is before the point
 abbrev pub ReadAgain : Type 0
 ReadAgain = (decimals bias v : ℕ) → decimals < digitLimit → bias < 2 ^ 32 → v < 2 ^ 32 →
     readOf decimals (signedText decimals bias v) ≡ exactly (ltb v bias) (distance bias v)

@@ -1,4 +1,4 @@
--- What a reply's text says: document 01, "Settings" and "Events, status, identity".
+-- What a reply's text says: numbers (§4.6), and the digits of the serial number (§11.1).
 use Prim.Native.Nat.{ℕ, zero, suc, _+_, _-_, _/_, _%_, _^_}
 use mathlib.Core.Bool.{cond}
 use mathlib.Core.List.{List, [], _∷_, _++_}
@@ -6,7 +6,8 @@ use lib.Dec.{ltb, eqb}
 use Rattle.split.specs.Ascii.{comma}
 use Rattle.number.specs.Number.{minus, point, digitZero}
 
--- the last digits of n, as many as the width says, zeros in front where it has fewer: as the serial number's five
+-- §4.6 and §11.1: the last digits of n, as many as the width says, zeros in front where it has fewer: decimals, or the
+-- five digits of the serial number
 unfoldable pub padded : ℕ → ℕ → List ℕ
 padded zero n = []
 padded (suc k) n = (digitZero + n / 10 ^ k % 10) ∷ padded k n
@@ -23,16 +24,16 @@ digitCountIn (suc m) n =
 abbrev pub digitCount : ℕ → ℕ
 digitCount n = digitCountIn n n
 
--- a whole number: as many digits as n has, so no zero in front, and "0" for zero
+-- §4.6: a whole number: as many digits as n has, so no zero in front, and "0" for zero
 unfoldable pub plain : ℕ → List ℕ
 plain n = padded (digitCount n) n
 
--- n in units of 10^-decimals: its whole part, and where there are decimals a point and exactly that many digits
+-- §4.6: n in units of 10^-decimals: its whole part, and where there are decimals a point and exactly that many digits
 unfoldable pub fixed : ℕ → ℕ → List ℕ
 fixed decimals n =
     plain (n / 10 ^ decimals) ++ cond (eqb decimals 0) [] (point ∷ padded decimals n)
 
--- a minus below zero, and nothing else: v has the bias added, so zero is the bias itself
+-- §4.6: a minus below zero, and nothing else: v has the bias added, so zero is the bias itself
 unfoldable pub sign : ℕ → ℕ → List ℕ
 sign bias v = cond (ltb v bias) (minus ∷ []) []
 
@@ -40,10 +41,10 @@ sign bias v = cond (ltb v bias) (minus ∷ []) []
 abbrev pub distance : ℕ → ℕ → ℕ
 distance bias v = (v - bias) + (bias - v)
 
--- the text of v, which has the bias added: its sign, then how far it is from zero
+-- §4.6: the text of v, which has the bias added: its sign, then how far it is from zero
 unfoldable pub signedText : ℕ → ℕ → ℕ → List ℕ
 signedText decimals bias v = sign bias v ++ fixed decimals (distance bias v)
 
--- a further value of the same reply, a comma before it
+-- §4.6: a further value of the same reply, a comma before it
 abbrev pub next : ℕ → ℕ → ℕ → List ℕ
 next decimals bias v = comma ∷ signedText decimals bias v

@@ -1,4 +1,4 @@
--- What counts of a line's bytes: document 01, "Lines and commands".
+-- What counts of a line's bytes (§2.5), and how many it may have (§2.3, §2.4).
 use Prim.Native.Nat.{ℕ, _-_}
 use mathlib.Core.Bool.{Bool, cond, _||_}
 use mathlib.Core.List.{List, [], _∷_}
@@ -6,7 +6,7 @@ use lib.Dec.{ltb, eqb}
 use lib.ListN.{take}
 use Rattle.line_text.specs.declared.Cleaned.{Cleaned}
 
--- the most bytes of a line, its end aside
+-- §2.3 and §2.4: the most bytes of a line, its end aside
 abbrev pub lineLimit : ℕ
 lineLimit = 256
 
@@ -34,15 +34,15 @@ smallZ = 0x7A
 abbrev pub caseDistance : ℕ
 caseDistance = 32
 
--- bytes dropped wherever they are: space and CR
+-- §2.5: bytes that are left out wherever they are: space and CR
 abbrev pub isDropped : ℕ → Bool
 isDropped b = eqb b space || eqb b cr
 
--- a small letter as its capital; any other byte as it is
+-- §2.5: a small letter as its capital; any other byte as it is
 abbrev pub capital : ℕ → ℕ
 capital b = cond (ltb b smallA) b (cond (ltb smallZ b) b (b - caseDistance))
 
--- a line's bytes that count
+-- §2.5: a line's bytes that count
 unfoldable pub cleaned : List ℕ → List ℕ
 cleaned [] = []
 cleaned (b ∷ bs) = cond (isDropped b) (cleaned bs) (capital b ∷ cleaned bs)

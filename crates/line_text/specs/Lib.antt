@@ -1,3 +1,3 @@
--- What counts of a line's bytes.
+-- What counts of a line's bytes, and its commands' texts (§2.5, §2.6).
 pub mod Clean
 pub mod Texts

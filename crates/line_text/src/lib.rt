@@ -1,4 +1,4 @@
-// A line's bytes as its commands are read: space and CR dropped, letters made capitals.
+// A line's bytes as its commands are read: space and CR left out, letters made capitals.
 ghost use mathlib.Core.Path.{_≡_};
 ghost use Prim.Native.Nat.{_≤_};
 ghost use lib.ListN.{take};
@@ -18,7 +18,7 @@ pub struct Cleaned {
     pub len: usize,
 }
 
-// Whether a byte is dropped wherever it is: space and CR.
+// Whether a byte is left out wherever it is: space and CR.
 fn is_dropped(b: u8) -> bool
     ensures { λ r. ⌜ r ≡ isDropped b ⌝ }
 {

@@ -1,5 +1,4 @@
--- The command names of document 01, each with what it stands for: every one and no other, in alphabetical order, "*"
--- first.
+-- The command names (§3.2), each with what it stands for: every one and no other, in alphabetical order, "*" first.
 use Prim.Native.Nat.{ℕ}
 use Prim.Native.String.{String}
 use mathlib.Core.Bool.{Bool, true, false, cond, _&&_}
@@ -15,7 +14,7 @@ use Rattle.mnemonic.specs.declared.Form.the-variants.{Words, Floats}
 use Rattle.mnemonic.specs.declared.Register.the-variants.{Standard, Service, Lia, Errors}
 use Rattle.mnemonic.specs.declared.Action.the-variants.{Reset, Clear, Start, Pause, Empty, Trigger}
 
--- a name, of four letters or of "*" and three, with what it stands for
+-- §3.1: a name, which is four letters, or "*" and three, with what it stands for
 pub record Named : Type 0 where
   pub name : List ℕ
   pub meaning : Meaning
@@ -24,8 +23,8 @@ pub record Named : Type 0 where
 abbrev named : String → Meaning → Named
 named s m = record { name = bytes s; meaning = m }
 
--- the commands: a setting by its entry in the settings table, one with channels by the first one's entry and the number
--- of channels
+-- §3.2: the commands: a setting by its entry in the settings table, one with channels by the first one's entry and the
+-- number of channels (§5.1)
 abbrev pub commands : List Named
 commands =
     named "*CLS" (Act Clear)
@@ -82,6 +81,6 @@ unfoldable pub meaningIn : List Named → List ℕ → Meaning
 meaningIn [] s = Unknown
 meaningIn (n ∷ ns) s = cond (sameBytes (n .name) s) (n .meaning) (meaningIn ns s)
 
--- what a name stands for
+-- §3.2: what a name stands for
 abbrev pub meaningOf : List ℕ → Meaning
 meaningOf s = meaningIn commands s

@@ -1,5 +1,5 @@
--- The promise on the search for a name, proved in `proofs/Words.antt`: by its four bytes as one number the same meaning
--- is found as byte by byte. Assumes nothing.
+-- The promise on the search for a name (§3.2), proved in `proofs/Words.antt`: by its four bytes as one number the same
+-- meaning is found as byte by byte. Assumes nothing.
 use Prim.Native.Nat.{ℕ}
 use mathlib.Core.Bool.{Bool, false, _&&_}
 use mathlib.Core.Path.{_≡_}
@@ -17,6 +17,6 @@ isFour (a ∷ b ∷ []) = false
 isFour (a ∷ b ∷ c ∷ []) = false
 isFour (a ∷ b ∷ c ∷ d ∷ e ∷ s) = false
 
--- of any four bytes, a command's name or not
+-- §3.2: of any four bytes, a command's name or not
 abbrev pub FoundWord : Type 0
 FoundWord = (s : List ℕ) → T (isFour s) → foundOf (word s) ≡ meaningOf s

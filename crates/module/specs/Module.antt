@@ -1,5 +1,4 @@
--- A module: whether a call may be done, and the status byte: document 01, "Refusal numbers" and "Events, status,
--- identity".
+-- A module: whether a call may be done (§1.4), and the status byte between lines (§10.7).
 use Prim.Native.Nat.{ℕ}
 use mathlib.Core.Bool.{Bool, true, false, cond, _&&_}
 use lib.Dec.{eqb}
@@ -13,11 +12,11 @@ use Rattle.storage.specs.Storage.{atRest}
 use Rattle.queue.specs.Queue as queue
 use Rattle.module.specs.declared.Module.{Module}
 
--- refusal 11: the state is not valid, or the queue is not one that its port can have
+-- §12.11: a module that 11 does not refuse: the state is valid, and the queue is one that its port can have
 unfoldable pub validModule : Module → Bool
 validModule m = validState (m .state) && queue.isValid (m .queue) (m .state .installation .port)
 
--- "Order: 10, 11, 9": 9, "traces .. not the state's capacity"
+-- §1.4, §12.9 and §12.12: what every later call tests first: 11, then 9: both traces as long as the capacity
 unfoldable pub guardOf : Module → ℕ → ℕ → Outcome
 guardOf m first second =
     cond (validModule m)
@@ -25,7 +24,7 @@ guardOf m first second =
     (outcome.Refused BadTraces))
     (outcome.Refused BadState)
 
--- the status byte between lines: "1 no command running", "4 .. (0 between lines)"
+-- §10.5 and §10.7: the status byte between lines: bit 1 is set, since no command runs, and bit 4 is clear
 unfoldable pub statusBetween : State → ℕ
 statusBetween s =
     statusByte (s .registers) (s .enables)

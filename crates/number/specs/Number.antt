@@ -1,4 +1,4 @@
--- Which texts are numbers: document 01, "Lines and commands".
+-- Which texts are numbers (§4.1).
 use Prim.Native.Nat.{ℕ}
 use mathlib.Core.Bool.{Bool, true, false, cond, not, _&&_, _||_}
 use mathlib.Core.List.{List, [], _∷_, _++_}
@@ -18,7 +18,7 @@ minus = 0x2D
 abbrev pub point : ℕ
 point = 0x2E
 
--- "E", before a power of ten
+-- "E", before a power
 abbrev pub letterE : ℕ
 letterE = 0x45
 
@@ -44,32 +44,32 @@ unfoldable pub begins : ℕ → List ℕ → Bool
 begins b [] = false
 begins b (x ∷ xs) = eqb x b
 
--- a text without the sign at its front, if it has one
+-- §4.1: a text without the sign at its front, if it has one
 unfoldable pub unsigned : List ℕ → List ℕ
 unsigned [] = []
 unsigned (b ∷ bs) = cond (eqb b minus) bs (cond (eqb b plus) bs (b ∷ bs))
 
--- the most digits that a number has, exponent aside
+-- §4.1: the most digits of a mantissa, zeros counted
 abbrev pub digitLimit : ℕ
 digitLimit = 15
 
--- the digits before and after the first point
+-- §4.1: the digits before and after the first point
 abbrev pub digits : List ℕ → List ℕ
 digits m = before point m ++ after point m
 
--- the part before "E": digits, at least one and at most the limit, and at most one point
+-- §4.1: the mantissa, which stands before "E": one digit or more, up to the limit, and one point or none
 unfoldable pub isMantissa : List ℕ → Bool
 isMantissa m = leb 1 (length (digits m)) && (leb (length (digits m)) digitLimit && allDigits (digits m))
 
--- the part after "E": a sign or none, then one digit or two
+-- §4.1: the power, which stands after "E": a sign or none, then one digit or two
 unfoldable pub isExponent : List ℕ → Bool
 isExponent x = leb 1 (length (unsigned x)) && (leb (length (unsigned x)) 2 && allDigits (unsigned x))
 
--- whether there is an "E"
+-- §4.1: whether a text has a power: whether there is an "E"
 abbrev pub hasExponent : List ℕ → Bool
 hasExponent u = ltb (span letterE u) (length u)
 
--- a sign or none, a mantissa, and where there is an "E" an exponent after it
+-- §4.1: a number: a sign or none, a mantissa, and where there is an "E" a power after it
 unfoldable pub isNumber : List ℕ → Bool
 isNumber s =
     (not (hasExponent (unsigned s)) || isExponent (after letterE (unsigned s)))

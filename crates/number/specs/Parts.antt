@@ -35,14 +35,14 @@ quantityOf v =
 unfoldable pub readOf : ℕ → List ℕ → Reading
 readOf decimals s = cond (isNumber s) (Number (quantityOf (exactOf decimals s))) NotNumber
 
--- low ≤ value + bias ≤ high, where a part after the point counts as one on the side where it can break the test
+-- §4.3: low ≤ value + bias ≤ high; a part after the point counts as one on the side where it can break the test
 unfoldable pub fitsRange : Range → Quantity → Bool
 fitsRange r q =
     cond (q .negative)
     (leb (r .low + q .whole + 1) (r .bias + cond (q .exact) 1 0) && leb (r .bias) (r .high + q .whole))
     (leb (r .low) (r .bias + q .whole) && leb (r .bias + q .whole + 1) (r .high + cond (q .exact) 1 0))
 
--- the multiple of the step nearest to a quantity without its sign, halves up
+-- §4.4: the multiple of the step nearest to a quantity without its sign, halves up
 unfoldable pub roundedTo : ℕ → Quantity → ℕ
 roundedTo step q =
     (q .whole / step + cond (leb step (2 * (q .whole % step) + cond (q .half) 1 0)) 1 0) * step
@@ -55,6 +55,6 @@ placedIn r q = cond (q .negative) (r .bias - roundedTo (r .step) q) (r .bias + r
 unfoldable pub valueIn : Range → Quantity → Argument
 valueIn r q = cond (ltb largest (placedIn r q)) Refused (Value (placedIn r q))
 
--- what a range makes of a quantity: its value, or refusal 2
+-- §4.3, §4.4 and §4.5: what a range makes of a quantity: its value, or refusal 2
 unfoldable pub takenOf : Range → Quantity → Argument
 takenOf r q = cond (ltb (q .whole) cap && (fitsRange r q && (not (r .whole) || q .exact))) (valueIn r q) Refused

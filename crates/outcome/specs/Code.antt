@@ -1,5 +1,4 @@
--- The number and the standard event bits of each refusal: document 01, "Refusal numbers" and "Events, status,
--- identity".
+-- The number of each refusal (`codeOf` lists the clauses), and the standard event bits (§10.1) that it sets.
 use Prim.Native.Nat.{ℕ, _^_}
 use Rattle.outcome.specs.declared.Refusal.{Refusal}
 use Rattle.outcome.specs.declared.Refusal.the-variants.{Malformed, OutOfRange, NotAllowed, NoRoom, LongLine}
@@ -9,19 +8,19 @@ use Rattle.outcome.specs.declared.Code.{Code}
 use Rattle.outcome.specs.declared.Outcome.{Outcome}
 use Rattle.outcome.specs.declared.Outcome.the-variants.{Done, Refused}
 
--- standard event bit 0, INP: a line was too long
+-- §10.1 and §12.5: INP, standard event bit 0: a line was too long
 abbrev pub inp : ℕ
 inp = 2 ^ 0
 
--- standard event bit 2, QRY: a reply had no room
+-- §10.1 and §12.4: QRY, standard event bit 2: a reply had no room
 abbrev pub qry : ℕ
 qry = 2 ^ 2
 
--- standard event bit 4, EXE: a command could not be done
+-- §10.1, §12.2 and §12.3: EXE, standard event bit 4: a command could not be done
 abbrev pub exe : ℕ
 exe = 2 ^ 4
 
--- standard event bit 5, CMD: a text is no command
+-- §10.1 and §12.1: CMD, standard event bit 5: a text is no command
 abbrev pub cmd : ℕ
 cmd = 2 ^ 5
 
@@ -33,7 +32,8 @@ none = 0
 abbrev numbered : ℕ → ℕ → Code
 numbered n b = record { number = n; bits = b }
 
--- the table of refusal numbers, row by row
+-- §12.1, §12.2, §12.3, §12.4, §12.5, §12.6, §12.7, §12.8, §12.9, §12.10 and §12.11: in this order each
+-- refusal (a term of document 01): its number and its bits
 abbrev pub codeOf : Refusal → Code
 codeOf Malformed = numbered 1 cmd
 codeOf OutOfRange = numbered 2 exe
@@ -47,8 +47,8 @@ codeOf BadTraces = numbered 9 none
 codeOf BadStart = numbered 10 none
 codeOf BadState = numbered 11 none
 
--- document 01's number of an outcome: 0 where nothing is refused, else the refusal's number. The promises of the start,
--- of events and of the serial poll use it
+-- §1.5: an outcome as a number: 0 where nothing is refused, else the refusal's number. The promises of the start, of
+-- events and of the serial poll use it
 unfoldable pub numberOf : Outcome → ℕ
 numberOf Done = 0
 numberOf (Refused refusal) = codeOf refusal .number

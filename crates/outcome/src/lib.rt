@@ -1,5 +1,5 @@
-// The refusals of document 01, with the number and the standard event bit of each; a line's answer, which is its first
-// refusal, and what a call tells its caller about a line.
+// The refusals, with the number and the standard event bit of each; a line's answer, which is its first refusal (§2.7),
+// and what a call tells its caller about a line (§1.5).
 ghost use mathlib.Core.Path.{_≡_};
 ghost use Rattle.outcome.specs.Code.{codeOf, numberOf};
 ghost use Rattle.outcome.specs.Answer.{firstOf, drops, numbersOf};
@@ -64,7 +64,7 @@ pub struct ReportNumbers {
     pub length: usize,
 }
 
-// The number of a refusal in document 01, and the standard event bits that it sets.
+// The number of a refusal, and the standard event bits that it sets.
 pub struct Code {
     // The number.
     pub number: u8,

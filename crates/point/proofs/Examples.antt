@@ -1,4 +1,4 @@
--- The worked examples of document 01 for TRCB. Assumes nothing.
+-- The manual's examples for TRCB (§8.2). Assumes nothing.
 use Prim.Native.Nat.{ℕ, _+_, _-_, _*_}
 use mathlib.Core.List.{List, [], _∷_}
 use mathlib.Core.Path.{_≡_, refl}
@@ -15,8 +15,7 @@ sent low e = littleEndian (floatOf (e * 65536 + low))
 abbrev minus : ℕ → ℕ
 minus n = 65536 - n
 
--- "TRCB of (m, e): (1,124) is 00 00 80 3F, (-3,123) is 00 00 C0 BF, (32767,124) is 00 FE FF 46, (-32768,236) is 00 00
--- 00 FF"
+-- §8.2: the bytes of four points, given as m and e: 1 and 124, -3 and 123, 32767 and 124, -32768 and 236
 pub examples :
     (sent 1 124 ≡ 0x00 ∷ 0x00 ∷ 0x80 ∷ 0x3F ∷ [])
     × (sent (minus 3) 123 ≡ 0x00 ∷ 0x00 ∷ 0xC0 ∷ 0xBF ∷ [])

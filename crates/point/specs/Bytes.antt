@@ -1,4 +1,4 @@
--- The bytes of a word, low byte first, and the number that bytes make. Assumes nothing.
+-- The bytes of a word, low byte first (§8.1), and the number that bytes make. Assumes nothing.
 use Prim.Native.Nat.{ℕ, zero, suc, _+_, _*_, _/_, _%_}
 use mathlib.Core.List.{List, [], _∷_}
 
@@ -7,7 +7,7 @@ unfoldable pub lowFirst : ℕ → ℕ → List ℕ
 lowFirst zero x = []
 lowFirst (suc k) x = x % 0x100 ∷ lowFirst k (x / 0x100)
 
--- the four bytes of a 32-bit word, as traces are sent
+-- §8.1: the four bytes of a 32-bit word, as traces are sent
 unfoldable pub littleEndian : ℕ → List ℕ
 littleEndian x = lowFirst 4 x
 

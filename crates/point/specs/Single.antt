@@ -1,5 +1,5 @@
--- IEEE 754's single (binary32): the three fields of a pattern of 32 bits, and the pattern that has given fields.
--- Assumes nothing.
+-- IEEE 754's single (binary32), the float of §8.1: the three fields of a pattern of 32 bits, and the pattern that has
+-- given fields. Assumes nothing.
 use Prim.Native.Nat.{ℕ, _+_, _*_, _/_, _%_, _^_}
 use mathlib.Core.Bool.{Bool, cond}
 use lib.Dec.{leb}

@@ -1,4 +1,4 @@
--- The definitions that the contracts of `queue` cite: Queue, which a reader of the promises goes by, and Parts, which
--- only the code's inner functions are held to.
+-- The queue of a line's bytes (§2.1, §2.2, §2.3): Queue, which a reader of the promises goes by, and Parts, which only
+-- the code's inner functions are held to.
 pub mod Queue
 pub mod Parts

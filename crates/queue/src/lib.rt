@@ -26,7 +26,7 @@ pub struct Queue {
     pub bytes: [u8; LINE],
     // How many bytes wait.
     pub len: usize,
-    // Whether bytes are dropped up to the line's end, after a line that was too long.
+    // Whether bytes are discarded up to the line's end, after a line that was too long.
     pub discarding: bool,
 }
 
@@ -48,7 +48,7 @@ pub struct QueueStep {
     pub line: usize,
     // How many bytes wait once a line that ended has run.
     pub len: usize,
-    // Whether bytes are dropped from here on.
+    // Whether bytes are discarded from here on.
     pub discarding: bool,
     // What the byte ends.
     pub ending: LineEnd,

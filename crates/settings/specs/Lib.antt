@@ -1,5 +1,5 @@
--- What the settings are, and the rules that bind them: document 01, "Settings". Exact and Kept are promises, Parts is
--- what only inner functions are held to.
+-- What the settings are (§5.1), and the rules that bind them (§5.2, §5.3, §6.3, §6.5). Exact and Invariant are
+-- promises, Parts is what only inner functions are held to.
 pub mod Limits
 pub mod Table
 pub mod Frequency

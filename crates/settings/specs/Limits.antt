@@ -1,45 +1,45 @@
--- The limits that several rules name, each written here alone: the capacity of the traces, frequencies and time
--- constants (document 01, "Settings" and "Storing points").
+-- The limits that several rules name, each written here alone: the capacity of the traces (§1.2), frequencies (§5.1,
+-- §6.1, §6.3) and time constants (§6.5).
 use Prim.Native.Nat.{ℕ, _*_}
 use mathlib.Core.Bool.{Bool, _&&_}
 use lib.Dec.{leb}
 
--- the least points of a trace
+-- §1.2: the least points of a trace
 abbrev pub capacityLeast : ℕ
 capacityLeast = 1
 
--- the most points of a trace
+-- §1.2: the most points of a trace
 abbrev pub capacityMost : ℕ
 capacityMost = 16383
 
--- whether a number may be the capacity of the traces
+-- §1.2: whether a number may be the capacity (a term of document 01): the length of both traces
 abbrev pub capacityFits : ℕ → Bool
 capacityFits capacity = leb capacityLeast capacity && leb capacity capacityMost
 
--- frequencies are counted in units of 0.1 mHz
+-- §5.3 and §6.1: frequencies are counted in units of 0.1 mHz
 abbrev pub hertz : ℕ → ℕ
 hertz n = n * 10000
 
--- the lowest FREQ and external frequency, 0.001 Hz
+-- §5.1 and §9.3: the lowest FREQ and external frequency, 0.001 Hz
 abbrev pub frequencyLow : ℕ
 frequencyLow = 10
 
--- the highest FREQ and external frequency, 102 kHz
+-- §5.1 and §9.3: the highest FREQ and external frequency, 102 kHz
 abbrev pub frequencyHigh : ℕ
 frequencyHigh = hertz 102000
 
--- FREQ and the external frequency at start, 1 kHz
+-- §5.1 and §6.1: FREQ and the external frequency at start, 1 kHz
 abbrev pub frequencyStart : ℕ
 frequencyStart = hertz 1000
 
--- the highest detection frequency, 102 kHz: a rule of its own beside FREQ's range
+-- §6.3: the highest detection frequency, 102 kHz: a rule of its own beside FREQ's range
 abbrev pub detectionLimit : ℕ
 detectionLimit = hertz 102000
 
--- the detection frequency above which no long time constant stands, 200 Hz
+-- §6.5: the detection frequency above which no long time constant stands, 200 Hz
 abbrev pub longLimit : ℕ
 longLimit = hertz 200
 
--- the longest time constant above it, 30 s
+-- §6.5 and §6.6: the longest time constant above it, 30 s
 abbrev pub longestAbove : ℕ
 longestAbove = 13

@@ -10,10 +10,10 @@ use Rattle.settings.specs.Frequency.{frequencyStep}
 use Rattle.settings.specs.Setting.{stepWith, rangeWith, turnedAt}
 use Rattle.settings.specs.declared.Row.{Row}
 
--- a row's range for a number by its whole units
+-- §5.3: a row's range for a number by its whole units
 unfoldable pub rangeOf : Row → ℕ → Range
 rangeOf row whole = rangeWith row (stepWith row (frequencyStep whole))
 
--- what an entry takes of a number: the value kept, or refusal 2
+-- §5.1: what an entry takes of a number: the value kept, or refusal 2
 unfoldable pub valueTaken : ℕ → Quantity → Argument
 valueTaken entry q = let row = rowOf entry in turnedAt (row .turns) (takenOf (rangeOf row (q .whole)) q)

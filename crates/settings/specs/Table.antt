@@ -1,4 +1,4 @@
--- The settings table of document 01, row by row, and the values that settings have.
+-- The settings table (§5.1), row by row, and the values that settings have.
 use Prim.Native.Nat.{ℕ, _+_, _-_, _%_}
 use mathlib.Core.Bool.{true, false, cond}
 use mathlib.Core.List.{List, [], _∷_, map}
@@ -11,7 +11,7 @@ use Rattle.settings.specs.declared.Settings.{Settings}
 -- Units: 0.01 for PHAS and OEXP x, 0.001 for SLVL and AUXV, 0.0001 for FREQ, 1 for every other. A value of x units is
 -- kept as x + bias, so that none is negative, and a row's low, high, least, most and start are kept so too.
 
--- a row whose arguments are all kept as they are, on a step of its own
+-- §5.1: a row whose arguments are all kept as they are, on a step of its own
 abbrev pub plainRow : (bias low high step decimals start : ℕ) → Row
 plainRow bias low high step decimals start =
     record {
@@ -27,23 +27,23 @@ plainRow bias low high step decimals start =
       start = start;
     }
 
--- whole numbers from low to high
+-- §5.1: whole numbers from low to high
 abbrev pub wholeRow : ℕ → ℕ → ℕ → Row
 wholeRow low high start = plainRow 0 low high 1 0 start
 
--- from -end to end, start 0
+-- §5.1: from -end to end, start 0
 abbrev pub signed : (decimals end : ℕ) → Row
 signed decimals end = plainRow end 0 (end + end) 1 decimals end
 
--- a whole turn, 360.00
+-- §5.2: a whole turn, 360.00
 abbrev pub turn : ℕ
 turn = 36000
 
--- half a turn, 180.00
+-- §5.2: half a turn, 180.00
 abbrev pub halfTurn : ℕ
 halfTurn = 18000
 
--- the phase: -360.00 to 729.99, start 0; a state keeps -179.99 to 180.00; the bias is a whole turn
+-- §5.1 and §5.2: the phase: -360.00 to 729.99, start 0; a state keeps -179.99 to 180.00; the bias is a whole turn
 abbrev pub phase : Row
 phase =
     record {
@@ -59,7 +59,7 @@ phase =
       start = turn;
     }
 
--- the frequency: its step goes by the value (`Frequency.stepBy`), and is never finer than 1
+-- §5.1 and §5.3: the frequency: its step goes by the value (`Frequency.stepBy`), and is never finer than 1
 abbrev pub frequency : Row
 frequency =
     record {
@@ -75,23 +75,23 @@ frequency =
       start = frequencyStart;
     }
 
--- the level of the sine output: 0.004 to 5.000 V by 0.002, start 1
+-- §5.1: the level of the sine output: 0.004 to 5.000 V by 0.002, start 1
 abbrev pub level : Row
 level = plainRow 0 4 5000 2 3 1000
 
--- a phase brought by whole turns into the range that is kept
+-- §5.2: a phase brought by whole turns into the range that is kept
 unfoldable pub turnedOf : ℕ → ℕ
 turnedOf x = phase .least + (x + (turn - phase .least)) % turn
 
--- the table: a row for each entry, in the order of the entries
+-- §5.1: the table: a row for each entry, in the order of the entries
 unfoldable pub table : List Row
 table =
-    phase  -- PHAS x: -360.00 to 729.99, 0.01
-    ∷ wholeRow 0 1 1  -- FMOD i: 0 external, 1 internal; start 1
-    ∷ frequency  -- FREQ f: 0.001 to 102000 Hz; start 1000 (step by value)
-    ∷ wholeRow 0 2 0  -- RSLP i: 0-2
-    ∷ wholeRow 1 19999 1  -- HARM i: 1-19999; start 1
-    ∷ level  -- SLVL x: 0.004 to 5.000 V, 0.002; start 1
+    phase  -- PHAS: -360.00 to 729.99 by 0.01
+    ∷ wholeRow 0 1 1  -- FMOD: 0 external, 1 internal; start 1
+    ∷ frequency  -- FREQ: 0.001 to 102000 Hz; start 1000 (step by value)
+    ∷ wholeRow 0 2 0  -- RSLP: 0-2
+    ∷ wholeRow 1 19999 1  -- HARM: 1-19999; start 1
+    ∷ level  -- SLVL: 0.004 to 5.000 V by 0.002; start 1
     ∷ wholeRow 0 3 0  -- ISRC: 0-3
     ∷ wholeRow 0 3 0  -- ILIN: 0-3
     ∷ wholeRow 0 3 1  -- OFSL: 0-3; start 1
@@ -107,13 +107,13 @@ table =
     ∷ wholeRow 0 2 0  -- DDEF 2 k
     ∷ wholeRow 0 1 0  -- FPOP 1 j: 0-1
     ∷ wholeRow 0 1 0  -- FPOP 2 j
-    ∷ signed 2 10500  -- OEXP 1 x: -105.00 to 105.00 step 0.01
+    ∷ signed 2 10500  -- OEXP 1 x: -105.00 to 105.00 by 0.01
     ∷ wholeRow 0 2 0  -- OEXP 1 j: 0-2
     ∷ signed 2 10500  -- OEXP 2 x
     ∷ wholeRow 0 2 0  -- OEXP 2 j
     ∷ signed 2 10500  -- OEXP 3 x
     ∷ wholeRow 0 2 0  -- OEXP 3 j
-    ∷ signed 3 10500  -- AUXV 1 x: -10.500 to 10.500, 0.001
+    ∷ signed 3 10500  -- AUXV 1 x: -10.500 to 10.500 by 0.001
     ∷ signed 3 10500  -- AUXV 2 x
     ∷ signed 3 10500  -- AUXV 3 x
     ∷ signed 3 10500  -- AUXV 4 x
@@ -210,11 +210,11 @@ send = 32
 abbrev pub tstr : ℕ
 tstr = 33
 
--- the number of entries
+-- §5.1: the number of entries: one for each channel and value of a setting
 abbrev pub entries : ℕ
 entries = tstr + 1
 
--- the entry behind an entry of the table, which holds the second value of a pair (DDEF, OEXP)
+-- §5.1: the entry behind an entry of the table, which holds the second value of a pair (DDEF, OEXP)
 unfoldable pub nextEntry : ℕ → ℕ
 nextEntry entry = cond (ltb entry entries) (entry + 1) entries
 
@@ -222,7 +222,7 @@ nextEntry entry = cond (ltb entry entries) (entry + 1) entries
 abbrev pub noRow : Row
 noRow = wholeRow 1 0 0
 
--- the row of an entry
+-- §5.1: the row of an entry
 unfoldable pub rowOf : ℕ → Row
 rowOf entry = getD table entry noRow
 
@@ -230,7 +230,7 @@ rowOf entry = getD table entry noRow
 abbrev pub startValue : Row → ℕ
 startValue r = r .start
 
--- every setting at its start, as after *RST
+-- §1.2, §5.1 and §11.2: every setting at its start, as after *RST
 unfoldable pub startSettings : Settings
 startSettings = record { values = map startValue table }
 
@@ -238,6 +238,6 @@ startSettings = record { values = map startValue table }
 abbrev pub valueOf : Settings → ℕ → ℕ
 valueOf s entry = getD (s .values) entry 0
 
--- settings with another value at an entry, unchanged past the table
+-- §5.4: settings with another value at an entry, the other entries as they were; unchanged past the table
 abbrev pub withValue : Settings → ℕ → ℕ → Settings
 withValue s entry value = record { values = set (s .values) entry value }

@@ -1,4 +1,4 @@
--- The settings that a valid state may have: each value in its range and on its step, and the limits (refusal 11).
+-- The settings that a valid state may have (§12.11): each value in its range and on its step, and the limits.
 use Prim.Native.Nat.{ℕ, zero, suc, _%_}
 use mathlib.Core.Bool.{Bool, true, _&&_}
 use lib.Dec.{leb, eqb}
@@ -7,7 +7,7 @@ use Rattle.settings.specs.Frequency.{detectionOf, withinLimit, timeConst
 use Rattle.settings.specs.Setting.{stepOf}
 use Rattle.settings.specs.declared.Settings.{Settings}
 
--- a value in its entry's range and on its step (where the step is not 1 the bias is 0)
+-- §12.11: a value in its entry's range and on its step (where the step is not 1 the bias is 0)
 unfoldable pub valueValid : ℕ → ℕ → Bool
 valueValid entry x = leb (rowOf entry .least) x && (leb x (rowOf entry .most) && eqb (x % stepOf entry x) 0)
 
@@ -16,11 +16,12 @@ unfoldable pub every : (ℕ → Bool) → ℕ → Bool
 every test zero = true
 every test (suc n) = every test n && test n
 
--- every value may be kept
+-- §12.11: every value may be kept
 unfoldable pub valuesValid : Settings → Bool
 valuesValid s = every (λ entry. valueValid entry (valueOf s entry)) entries
 
--- settings that a state may have: with the limits on the external and detection frequencies and the time constant
+-- §12.11: settings that a state may have: with the limits on the external frequency (§9.3), on the detection frequency
+-- (§6.3) and on the time constant (§6.5)
 unfoldable pub validSettings : Settings → ℕ → Bool
 validSettings s external =
     let detection = detectionOf s external in

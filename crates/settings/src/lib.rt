@@ -1,4 +1,4 @@
-// The settings of a lock-in module, by the table of document 01.
+// The settings of a lock-in module, by the settings table (§5.1).
 ghost use mathlib.Core.Path.{_≡_};
 ghost use mathlib.Core.Bool.{_&&_};
 ghost use Prim.Native.Nat.{_%_};

@@ -1,5 +1,5 @@
-// The settings table of document 01, channel by channel. A row is found by a `match`, which is compiled to constants in
-// memory. A constant array is written to the stack at each use: so only what is used whole, at constant places, is one.
+// The settings table (§5.1), channel by channel. A row is found by a `match`, which is compiled to constants in memory.
+// A constant array is written to the stack at each use: so only what is used whole, at constant places, is one.
 ghost use mathlib.Core.Path.{_≡_};
 ghost use mathlib.Core.List.{map};
 ghost use Prim.Native.Nat.{_+_, _^_, _<_};

@@ -13,6 +13,6 @@ bytesFrom i (suc n) s = code (charAt s i) ∷ bytesFrom (i + 1) n s
 abbrev pub bytes : String → List ℕ
 bytes s = bytesFrom 0 (len s) s
 
--- "," stands between arguments, and between the values of a reply
+-- §3.1 and §4.6: "," stands between arguments, and between the values of a reply
 abbrev pub comma : ℕ
 comma = 0x2C

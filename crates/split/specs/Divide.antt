@@ -1,4 +1,5 @@
--- Bytes divided at a separator: commands at ";", arguments at ",", lines at LF, a number at its point and at "E".
+-- Bytes divided at a separator: commands at ";" (§2.6), arguments at "," (§3.1), a script's lines at LF (§13.1), a
+-- number at its point and at "E" (§4.1).
 use mathlib.Core.Bool.{cond}
 use mathlib.Core.List.{List, [], _∷_}
 use Prim.Native.Nat.{ℕ, suc}
@@ -23,7 +24,7 @@ unfoldable pub onHead : ℕ → List (List ℕ) → List (List ℕ)
 onHead b [] = (b ∷ []) ∷ []
 onHead b (p ∷ ps) = (b ∷ p) ∷ ps
 
--- the parts that separators divide: one more than there are separators
+-- §2.6 and §3.1: the parts that separators divide: one more than there are separators
 unfoldable pub parts : ℕ → List ℕ → List (List ℕ)
 parts sep [] = [] ∷ []
 parts sep (b ∷ bs) = cond (eqb b sep) ([] ∷ parts sep bs) (onHead b (parts sep bs))

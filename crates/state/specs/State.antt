@@ -1,5 +1,5 @@
--- The state at start and after *RST, its parts replaced one at a time, and what a change of the detection frequency or
--- a refusal does to it: document 01, "Settings" and "Refusal numbers".
+-- The state at start (§1.2) and after *RST (§11.2), its parts replaced one at a time, and what a change of the
+-- detection frequency (§6.6, §6.7) or a refusal does to it.
 use Prim.Native.Nat.{ℕ}
 use Rattle.settings.specs.Table.{oflt, srat, send, tstr, startSettings, valueOf, withValue}
 use Rattle.settings.specs.Frequency.{detectionOf, crossingOf, externalStart}
@@ -21,19 +21,19 @@ use Rattle.state.specs.declared.State.{State}
 
 -- ---- the constructors: no other definition lists the fields of a state or of a part
 
--- what is fixed at start: serial number, port and capacity
+-- §1.2: what is fixed at start: serial number, port and capacity
 abbrev pub installationOf : ℕ → ℕ → ℕ → Installation
 installationOf serial port capacity = record { serial = serial; port = port; capacity = capacity }
 
--- a point for each trace
+-- §9.1: a point for each trace
 abbrev pub pairOf : ℕ → ℕ → Pair
 pairOf w v = record { one = w; two = v }
 
--- "start 1000 Hz"; storage is empty
+-- §1.2, §6.1 and §11.2: at start and after *RST: the external frequency is 1000 Hz, and storage is empty
 abbrev pub startAcquisition : Acquisition
 startAcquisition = record { external = externalStart; storage = emptiedStorage }
 
--- a fresh state: every setting at its start, PON set, every enable 0, "both words 0 at start"
+-- §1.2: a fresh state: every setting at its start, PON set (§10.1), every enable 0 (§10.3), the latest pair two words 0
 unfoldable pub startState : Installation → State
 startState u =
     record {
@@ -47,7 +47,7 @@ startState u =
 
 -- ---- one part replaced, the others as they were
 
--- the acquisition at another external frequency
+-- §6.1: the acquisition at another external frequency
 abbrev pub atFrequency : ℕ → Acquisition → Acquisition
 atFrequency f m = record { external = f; storage = m .storage }
 
@@ -55,7 +55,7 @@ atFrequency f m = record { external = f; storage = m .storage }
 abbrev pub withStorage : Storage → Acquisition → Acquisition
 withStorage t m = record { external = m .external; storage = t }
 
--- all parts given but for what is fixed at start, which stays
+-- §1.2: all parts given but for what is fixed at start, which stays
 abbrev pub withParts : Settings → Acquisition → Registers → Enables → Pair → State → State
 withParts x m r e l s =
     record { settings = x; acquisition = m; registers = r; enables = e; latest = l; installation = s .installation }
@@ -76,7 +76,7 @@ withRegisters r s = withParts (s .settings) (s .acquisition) r (s .enables) (s .
 abbrev pub withEnables : Enables → State → State
 withEnables e s = withParts (s .settings) (s .acquisition) (s .registers) e (s .latest) s
 
--- a state with another latest pair
+-- §9.1: a state with another latest pair (a term of document 01): the points that the next trigger or tick stores
 abbrev pub withLatest : Pair → State → State
 withLatest l s = withParts (s .settings) (s .acquisition) (s .registers) (s .enables) l s
 
@@ -86,16 +86,16 @@ withStorageOf p s = withAcquisition (withStorage (p .storage) (s .acquisition)) 
 
 -- ---- the detection frequency
 
--- the detection frequency of a state
+-- §6.2: the detection frequency of a state
 abbrev pub detectionNow : State → ℕ
 detectionNow s = detectionOf (s .settings) (s .acquisition .external)
 
--- the crossing from an old detection frequency to the one of the state
+-- §6.7: the crossing from an old detection frequency to the one of the state
 abbrev pub crossingFrom : ℕ → State → Crossing
 crossingFrom old s = crossingOf old (detectionNow s) (valueOf (s .settings) oflt)
 
--- the state once its detection frequency has changed from the old one: a crossing of 200 Hz acts on the time constant
--- and sets its LIA bits
+-- §6.6 and §6.7: the state once its detection frequency has changed from the old one: a crossing of 200 Hz acts on the
+-- time constant and sets its LIA bits
 unfoldable pub crossedFrom : ℕ → State → State
 crossedFrom old s =
     let crossing = crossingFrom old s in
@@ -104,11 +104,11 @@ crossedFrom old s =
 
 -- ---- refusals and storing
 
--- a refusal's effect on the state, "CMD set", "EXE set", "QRY set", "INP set" or "nothing": its standard event bits and
--- nothing else
+-- §12.1, §12.2, §12.3, §12.4 and §12.5: what a refusal changes in the state: its standard event bits are set, and
+-- nothing else changes
 unfoldable pub withErrorBit : Refusal → State → State
 withErrorBit refusal s = withRegisters (withStandard (s .registers) (codeOf refusal .bits)) s
 
--- SRAT, SEND and TSTR
+-- §7.4 and §7.6: the settings that storing goes by: SRAT, SEND and TSTR
 unfoldable pub samplingOf : Settings → Sampling
 samplingOf s = record { rate = valueOf s srat; end = valueOf s send; start = valueOf s tstr }

@@ -1,5 +1,4 @@
--- The valid states: each part in its ranges, on its steps and within its limits, serial number and port too (refusal
--- 11).
+-- The valid states (§12.11): each part in its ranges, on its steps and within its limits, serial number and port too.
 use Prim.Native.Nat.{ℕ}
 use mathlib.Core.Bool.{Bool, _&&_}
 use lib.Dec.{leb}
@@ -14,25 +13,25 @@ use Rattle.state.specs.declared.Installation.{Installation}
 use Rattle.state.specs.declared.Pair.{Pair}
 use Rattle.state.specs.declared.State.{State}
 
--- the highest serial number
+-- §1.2: the highest serial number
 abbrev pub serialMost : ℕ
 serialMost = 99999
 
--- "serial over 99999 or port unknown": the ports are RS232 and GPIB, as numbers; "capacity, 1 to 16383"
+-- §1.2 and §12.11: serial number, port and capacity are ones of a start; the ports are RS232 and GPIB, as numbers
 unfoldable pub installationValid : Installation → Bool
 installationValid u = leb (u .serial) serialMost && (leb (u .port) gpib && capacityFits (u .capacity))
 
--- the latest pair, and every pair that an event may make the latest one: two legal points
+-- §9.1 and §12.11: the latest pair, and every pair that an event may make the latest one: two legal points
 unfoldable pub latestValid : Pair → Bool
 latestValid p = isLegal (p .one) && isLegal (p .two)
 
--- settings with the external frequency, storage with its capacity, registers with their enables
+-- §12.11: settings with the external frequency, storage with its capacity, registers with their enables
 unfoldable pub partsValid : State → Bool
 partsValid s =
     validSettings (s .settings) (s .acquisition .external)
     && (storage.isValid (s .acquisition .storage) (s .installation .capacity) (valueOf (s .settings) send)
     && status.isValid (s .registers) (s .enables))
 
--- every part of the state
+-- §12.11: every part of the state
 unfoldable pub validState : State → Bool
 validState s = partsValid s && (latestValid (s .latest) && installationValid (s .installation))

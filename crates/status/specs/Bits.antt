@@ -1,5 +1,5 @@
--- A byte's bits: bit i has the weight 2 ^ i. The union of two bytes' bits is `bitOr` of lib.Bits, the bits that they
--- have in common `bitAnd`. Assumes nothing.
+-- A byte's bits, which §10.1, §10.2, §10.3 and §10.5 speak of: bit i has the weight 2 ^ i. The union of two bytes' bits
+-- is `bitOr` of lib.Bits, the bits that they have in common `bitAnd`. Assumes nothing.
 use Prim.Native.Nat.{ℕ, _-_, _*_, _/_, _%_, _^_, _≤_, _<_, min, max}
 use mathlib.Core.Bool.{Bool, true, false, cond, not}
 use mathlib.Core.Path.{_≡_}

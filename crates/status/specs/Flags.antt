@@ -1,4 +1,4 @@
--- The promise on the status byte, bit by bit, proved in `proofs/Flags.antt`. Assumes nothing.
+-- The promise on the status byte (§10.5), bit by bit, proved in `proofs/Flags.antt`. Assumes nothing.
 use Prim.Native.Nat.{ℕ}
 use mathlib.Core.Bool.{Bool, false, cond}
 use mathlib.Core.Path.{_≡_}
@@ -10,7 +10,7 @@ use Rattle.status.specs.declared.Registers.{Registers}
 use Rattle.status.specs.declared.Enables.{Enables}
 use Rattle.status.specs.declared.Poll.{Poll}
 
--- the tests of bits 0 to 6
+-- §10.5: the tests of bits 0 to 6
 abbrev pub tests : Registers → Enables → Poll → List Bool
 tests r e p =
     p .«at_rest»  -- 0: storage is reset or done
@@ -26,7 +26,7 @@ tests r e p =
 abbrev pub bitOfTest : Bool → ℕ
 bitOfTest t = cond t 1 0
 
--- each bit of the status byte is set exactly where its test holds, and no bit past 6 is set
+-- §10.5: each bit of the status byte is set exactly where its test holds, and no bit past 6 is set
 abbrev pub StatusBits : Type 0
 StatusBits = (r : Registers) (e : Enables) (p : Poll) (i : ℕ) →
     bitOf (statusByte r e p) i ≡ bitOfTest (getD (tests r e p) i false)

@@ -100,7 +100,7 @@ started-keeps s = started-phase (s .phase) s
 pub paused-keeps : (s : Storage) (capacity end : ℕ) → isValid s capacity end ≡ true → isValid (pausedOf s) capacity end ≡ true
 paused-keeps s = paused-phase (s .phase) s
 
--- "SEND is refused unless storage is reset": there it may change
+-- SEND is set only while storage is reset (§7.5): there it may change
 pub reset-keeps : (s : Storage) (capacity end other : ℕ) → isReset s ≡ true → isValid s capacity end ≡ true → isValid s capacity other ≡ true
 reset-keeps s capacity end other r k =
     let f = facts s capacity end k in
@@ -207,7 +207,8 @@ module _ (s : Storage) (capacity : ℕ) (by : Sampling) where
       storing-keeps (triggerStores s by) (readiedOf s by) capacity (by .end)
       (λ e. and-first (isRunning (readiedOf s by)) _ e) (readied-keeps k)
 
--- STRT, PAUS and the start by a trigger leave the points held and the next slot, so the pair goes to that of the storage before
+-- STRT, PAUS and the start by a trigger leave the points held and the next slot, so the pair goes to that of the
+-- storage before
 pub record Same (t s : Storage) : Type 0 where
   pub held : t .held ≡ s .held
   pub next : t .next ≡ s .next
