@@ -1,5 +1,5 @@
-// The program bench: hands the bytes of standard input to a fresh GPIB module, and writes its replies to standard
-// output, by document 01.
+// The program bench: hands the bytes of standard input to a fresh GPIB module (§2.2), and writes its replies to
+// standard output.
 use lockin::Module;
 
 // The module's serial number.

@@ -1,2 +1,2 @@
--- What is read off the script check's answer.
+-- What is read off the script check's answer: §14.4.
 pub mod Read

@@ -1,4 +1,4 @@
--- A capacity that is read byte by byte is as good to the check as the one that document 01 gives for the line. Assumes
+-- A capacity that is read byte by byte is as good to the check as the one that §14.1 gives for the line. Assumes
 -- nothing.
 use Prim.Native.Nat.{ℕ, _+_, _-_, _*_, _<_, _≤_}
 use native.Mathlib.Omega.{arith}

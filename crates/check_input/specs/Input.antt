@@ -1,4 +1,4 @@
--- What the check program says of its input: document 01, "The script check".
+-- What the check program says of its input: §14.1, §14.2 and §14.3.
 use Prim.Native.Nat.{ℕ}
 use mathlib.Core.Bool.{cond, _&&_}
 use mathlib.Core.List.{List}
@@ -16,24 +16,24 @@ use Rattle.verdict.specs.declared.Verdict.{Verdict}
 use Rattle.verdict.specs.declared.Verdict.the-variants.{No}
 use Rattle.check_input.specs.VerdictLine.{verdictText}
 
--- the capacity on line one, which is digits alone; any other line counts as capacity 0
+-- §14.1: the capacity on line one, which is digits alone; any other line counts as capacity 0
 unfoldable pub capacityOf : List ℕ → ℕ
 capacityOf line = cond (allDigits line) (decimal line) 0
 
--- "at most 60,000 script bytes"
+-- §14.2: the most bytes of a script that the program takes
 abbrev pub scriptLimit : ℕ
 scriptLimit = 60000
 
--- a script past the limit is 8 at line 0, place 0, where the capacity is not refused by 9
+-- §14.2: a script past the limit is 8 at line 0, place 0, where the capacity is not refused by 9
 unfoldable pub limitedCheck : ℕ → List ℕ → Verdict
 limitedCheck capacity script =
     cond (ltb scriptLimit (length script) && capacityFits capacity) (No 0 0 LongScriptLine)
     (checkOf (modelOf capacity) script)
 
--- the verdict on a whole input: line one is the capacity, the rest the script
+-- §14.1: the verdict on a whole input: line one is the capacity, the rest the script
 unfoldable pub inputVerdict : List ℕ → Verdict
 inputVerdict input = limitedCheck (capacityOf (before lineFeed input)) (after lineFeed input)
 
--- the check program, from the bytes of its whole input to the bytes of its whole output
+-- §14.3: the check program, from the bytes of its whole input to the bytes of its whole output
 abbrev pub checkOutput : List ℕ → List ℕ
 checkOutput input = verdictText (inputVerdict input)

@@ -1,4 +1,4 @@
--- The line that the programs write for a verdict of the script check, byte by byte: document 01, "The script check".
+-- The line that the programs write for a verdict of the script check, byte by byte: §14.3.
 use Prim.Native.Nat.{ℕ}
 use mathlib.Core.List.{List, [], _∷_, _++_}
 use lib.ListN.{take}
@@ -13,20 +13,20 @@ use Rattle.check_input.specs.declared.verdict_line.VerdictLine.{VerdictL
 abbrev pub space : ℕ
 space = 0x20
 
--- LF, which ends the line
+-- §14.3: LF, which ends the line
 abbrev pub endOfLine : List ℕ
 endOfLine = lineFeed ∷ []
 
--- a space and a whole number, its digits and no zero in front
+-- §14.3: a space and a whole number, its digits and no zero in front
 abbrev pub spaced : ℕ → List ℕ
 spaced n = space ∷ plain n
 
--- one line: `ok`, or `no` with the line, the place and the refusal's number
+-- §14.3: one line: `ok`, or `no` and the three numbers: line, place, refusal
 unfoldable pub saidText : VerdictNumbers → List ℕ
 saidText ok = bytes "ok" ++ endOfLine
 saidText (no line place refusal) = bytes "no" ++ (spaced line ++ (spaced place ++ (spaced refusal ++ endOfLine)))
 
--- the same of a verdict, by its values in document 01's numbers
+-- §14.3: the same of a verdict, by its numbers
 abbrev pub verdictText : Verdict → List ℕ
 verdictText v = saidText (verdictNumbers v)
 

@@ -1,4 +1,4 @@
--- What the programs hold in memory is enough: they say of it what document 01 says of the whole input.
+-- What the programs hold in memory is enough: they say of it what §14.1, §14.2 and §14.3 say of the whole input.
 use Prim.Native.Nat.{ℕ, _<_}
 use mathlib.Core.Path.{_≡_}
 use mathlib.Core.List.{List, _++_}
@@ -8,11 +8,11 @@ use Rattle.check_input.specs.VerdictLine.{verdictText}
 use Rattle.check_input.specs.Input.{scriptLimit, limitedCheck, inputVerdict, checkOutput}
 use Rattle.check_input.specs.Bytes.{Memory, memory, startInput, afterBytes}
 
--- the verdict on what is in memory
+-- §14.2: the verdict on what is in memory
 abbrev pub verdictFrom : Memory → Verdict
 verdictFrom h = limitedCheck (h .input .capacity) (take (h .input .len) (h .script))
 
--- the claim: what is in memory after an input gives the verdict on that input
+-- §14.1 and §14.2: the claim: what is in memory after an input gives the verdict on that input
 pub record Whole : Type 0 where
   -- however the input comes in pieces
   pub pieces : (first second : List ℕ) (h : Memory) →
@@ -26,15 +26,15 @@ pub record Reads (first after : Memory) : Type 0 where
   pub bytes : List ℕ
   pub stored : after ≡ afterBytes bytes first
 
--- what the check program writes of what is in memory
+-- §14.3: what the check program writes of what is in memory
 pub record Outputs (h : Memory) (text : List ℕ) : Type 0 where
   pub kept : text ≡ verdictText (verdictFrom h)
-  -- for every input after which this is in memory, whatever stood in the lent bytes: the output that document 01 gives
-  -- the whole input
+  -- §14.1, §14.2 and §14.3: for every input after which this is in memory, whatever stood in the lent bytes: the output
+  -- that the whole input is to have
   pub whole : (input lent : List ℕ) → scriptLimit < length lent → h ≡ afterBytes input (memory startInput lent) →
       text ≡ checkOutput input
 
--- the whole program: what it writes is the output of some input, the one that was read
+-- §14.3: the whole program: what it writes is the output of some input, the one that was read
 pub record OutputOfSome (text : List ℕ) : Type 0 where
   pub input : List ℕ
   pub says : text ≡ checkOutput input

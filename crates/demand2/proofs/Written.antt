@@ -1,4 +1,5 @@
--- What is written of a value, read again, sets that value: once over the step, the bias and the decimals. Assumes nothing.
+-- What is written of a value, read again, sets that value: once over the step, the bias and the decimals. Assumes
+-- nothing.
 use Prim.Native.Nat.{ℕ, _+_, _-_, _*_, _/_, _%_, _^_, _<_, _≤_}
 use mathlib.Core.Path.{_≡_, refl, sym, ap, _∙_}
 use mathlib.Core.Bool.{Bool, true, false, cond, not, _&&_, _||_, or-true}

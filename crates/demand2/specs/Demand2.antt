@@ -1,14 +1,14 @@
--- Demand 2: what the query of a setting replies, sent back, sets the same value. Over the call with a whole line, for
--- every setting, enable and channel, in every module that refusals 11 and 9 let pass. Document 01, "Settings".
+-- Demand 2: what the query of a setting replies, sent back, sets the same value (§4.7). Over the call with a whole
+-- line, for every setting, enable and channel, in every module that refusals 11 and 9 let pass.
 --
--- Document 01 names five hollow cores that this demand shuts out; each is shut out by a claim on the calls and is a
--- wrong program under crates/ besides:
+-- Five modules that do less than the manual says are excluded, each by a claim on the calls, and each is a wrong
+-- program under crates/ besides:
 -- - whatever is sent is refused: by `asked` and `back` below; module/must-fail/refuses_everything,
--- - every query has the same reply: by `sent`, since a reply gives the values; reply_text/must-fail/replies_alike,
--- - a set is taken and no value changes: by `sent`; change/must-fail/keeps_nothing,
--- - only the first command of a line is done, the later ones just counted: by Lines.antt;
+-- - every query has the same reply: by `sent`, since a reply gives the values; reply/must-fail/replies_alike,
+-- - a set is taken and no value changes: by `sent`; effect/must-fail/keeps_nothing,
+-- - only the first command of a line is done, the later ones just counted: by Lines.antt (§2.6);
 --   line/must-fail/later_commands_acknowledged,
--- - SPTS? replies some number: by Points.antt; reply_text/must-fail/points_invented.
+-- - SPTS? replies some number: by Points.antt (§7.9); reply/must-fail/points_invented.
 use Prim.Native.Nat.{ℕ, _+_, _-_, _*_, _<_, _≤_}
 use mathlib.Core.Path.{_≡_}
 use mathlib.Core.Bool.{true}
@@ -41,22 +41,22 @@ use Rattle.demand2.specs.Written.{written}
 
 -- where a value is
 pub data Location : Type 0 where
-  -- at an entry of the settings table
+  -- §5.1: at an entry of the settings table
   atEntry : ℕ → Location
-  -- in one of the enables *ESE, *SRE, LIAE and ERRE
+  -- §10.3: in one of the enables *ESE, *SRE, LIAE and ERRE
   atEnable : Register → Location
 
--- a setting: the text of its query, the text that sends a reply back, and where its values are
+-- §3.3: a setting: the text of its query, the text that sends a reply back, and where its values are
 pub record Address : Type 0 where
   pub query : List ℕ
   pub set : List ℕ → List ℕ
   pub holds : List Location
 
--- a setting without channels, as PHAS: asked by PHAS?, sent back as PHAS and the reply
+-- §3.3: a setting without channels, as PHAS: asked by PHAS?, sent back as PHAS and the reply
 abbrev pub plainly : List ℕ → Location → Address
 plainly name place = record { query = name ++ (questionMark ∷ []); set = λ reply. name ++ reply; holds = place ∷ [] }
 
--- channel i of a setting, as AUXV: asked by AUXV?i, sent back as AUXVi, and the reply
+-- §3.3 and §5.4: channel i of a setting, as AUXV: asked by AUXV?i, sent back as AUXVi, and the reply
 abbrev pub channelled : List ℕ → ℕ → List Location → Address
 channelled name i held =
     record {
@@ -65,21 +65,21 @@ channelled name i held =
       holds = held;
     }
 
--- every setting, channel and enable, by what the names mean
+-- §3.2: every setting, channel and enable, by what the names mean
 pub data IsSetting : Address → Type 0 where
-  -- a setting without channels
+  -- §3.3: a setting without channels
   alone : (name : List ℕ) (entry : ℕ) → meaningOf name ≡ Setting entry → IsSetting (plainly name (atEntry entry))
-  -- channel i of a setting with one value for each channel
+  -- §5.4: channel i of a setting with one value for each channel
   channel : (name : List ℕ) (base channels i : ℕ) → meaningOf name ≡ Channel base channels → 1 ≤ i → i ≤ channels →
       IsSetting (channelled name i (atEntry (base + (i - 1)) ∷ []))
-  -- channel i of a setting with two values for each channel
+  -- §5.4: channel i of a setting with two values for each channel
   pair : (name : List ℕ) (base channels i : ℕ) → meaningOf name ≡ ChannelPair base channels → 1 ≤ i → i ≤ channels →
       IsSetting (channelled name i (atEntry (base + 2 * (i - 1)) ∷ atEntry (nextEntry (base + 2 * (i - 1))) ∷ []))
-  -- an enable
+  -- §10.3: an enable
   enable : (name : List ℕ) (which : Register) → meaningOf name ≡ Enable which →
       IsSetting (plainly name (atEnable which))
 
--- no entry of the table is left out
+-- §5.1: no entry of the table is left out
 abbrev pub EveryEntry : Type 0
 EveryEntry = (entry : ℕ) → entry < entries → (a : Address) × IsSetting a × List·Memᴰ (atEntry entry) (a .holds)
 
@@ -94,52 +94,53 @@ valueAt s (atEnable which) = enableOf (s .enables) which
 abbrev pub valuesAt : State → List Location → List ℕ
 valuesAt s places = map (valueAt s) places
 
--- the text of one value: by the entry's decimals and sign; an enable is a whole number
+-- §4.6 and §5.1: the text of one value: by the entry's decimals and sign; §10.3: an enable is a whole number
 abbrev pub textAt : State → Location → List ℕ
 textAt s (atEntry entry) = written entry (valueOf (s .settings) entry)
 textAt s (atEnable which) = plain (enableOf (s .enables) which)
 
--- several texts with commas between them
+-- §4.6: several texts with commas between them
 abbrev pub joined : List (List ℕ) → List ℕ
 joined [] = []
 joined (x ∷ []) = x
 joined (x ∷ y ∷ more) = x ++ comma ∷ joined (y ∷ more)
 
--- the reply of a setting's query, without its end
+-- §5.1: the reply of a setting's query, without its end
 abbrev pub replyTo : Address → State → List ℕ
 replyTo a s = joined (map (textAt s) (a .holds))
 
 -- ---- the claim
 
--- a module that there can be, with its traces, that 11 and 9 do not refuse
+-- §1.4: a module that there can be, with its traces, that 11 and 9 do not refuse
 pub record Ready (m : Module) (one two : List ℕ) : Type 0 where
   pub fits : ModuleFits m
   pub passes : guardOf m (length one) (length two) ≡ Done
 
--- a call that answers 0, writes these reply bytes and changes nothing
+-- §1.5: a call that answers 0, writes these reply bytes and changes nothing
 abbrev pub answered : List ℕ → Module → List ℕ → List ℕ → Call
 answered out m one two = record { after = m; one = one; two = two; out = out; report = reportOf Passed (length out) }
 
--- the settings that a state can refuse by 3
+-- §12.3: the settings that a state can refuse by 3
 pub data CanRefuse : List Location → Type 0 where
-  -- FREQ
+  -- §6.3 and §6.4: FREQ
   frequency : CanRefuse (atEntry freq ∷ [])
-  -- HARM
+  -- §6.3: HARM
   harmonic : CanRefuse (atEntry harm ∷ [])
-  -- FMOD
+  -- §6.3: FMOD
   reference : CanRefuse (atEntry fmod ∷ [])
-  -- OFLT
+  -- §6.5: OFLT
   constant : CanRefuse (atEntry oflt ∷ [])
-  -- SEND
+  -- §7.5: SEND
   end : CanRefuse (atEntry send ∷ [])
 
--- no other value changes but the time constant, which shortens where the detection frequency rises above 200 Hz
+-- §5.4: no other value changes but the time constant, which shortens where the detection frequency rises above 200 Hz
+-- (§6.6)
 abbrev pub OthersStay : List Location → State → State → Type 0
 OthersStay places before after =
     (p : Location) → (List·Memᴰ p places → ⊥) → (p ≡ atEntry oflt → ⊥) → valueAt after p ≡ valueAt before p
 
--- what comes of sending values back to a module: they are set, with no reply and no trace point changed; or, where its
--- state does not allow them, refusal 3 at the line's first command, with its error bit and nothing else
+-- §4.7: what comes of sending values back to a module: they are set, with no reply and no trace point changed; §12.3:
+-- or, where its state does not allow them, refusal 3 at the line's first command, with its error bit and nothing else
 pub data SentBack (places : List Location) (values : List ℕ) (t : Module) (one two : List ℕ) : Call → Type 0 where
   taken : (after : Module) → after .queue ≡ t .queue → valuesAt (after .state) places ≡ values →
       OthersStay places (t .state) (after .state) →
@@ -149,17 +150,17 @@ pub data SentBack (places : List Location) (values : List ℕ) (t : Module) (one
       (silent (reportOf (Refused NotAllowed 1) 0)
       (record { state = withErrorBit NotAllowed (t .state); queue = t .queue }) one two)
 
--- FREQ? replies the frequency in force, which is FREQ's own value in internal mode
+-- §6.1: FREQ? replies the frequency in force, which is FREQ's own value in internal mode
 abbrev pub Internal : Address → State → Type 0
 Internal a s = a .holds ≡ atEntry freq ∷ [] → isInternal (s .settings) ≡ true
 
--- SEND is set only while storage is reset
+-- §7.5: SEND is set only while storage is reset
 abbrev pub Settable : Address → State → Type 0
 Settable a s = a .holds ≡ atEntry send ∷ [] → isReset (s .acquisition .storage) ≡ true
 
--- a setting's query and its reply:
--- - asked, with room for it, the call writes exactly the reply and the port's end, and changes nothing;
--- - sent back to any module, it sets the same values there or is refused by 3;
+-- §4.7: a setting's query and its reply:
+-- - asked, with room for it, the call writes exactly the reply and the port's end (§11.3), and changes nothing;
+-- - sent back to any module, it sets the same values there or is refused by 3 (§12.3);
 -- - sent back to the module that replied, it is taken and changes nothing
 pub record RoundTrip (a : Address) (m : Module) (one two : List ℕ) : Type 0 where
   pub asked : (room : ℕ) → length (replyTo a (m .state)) + 1 ≤ room →
@@ -171,7 +172,7 @@ pub record RoundTrip (a : Address) (m : Module) (one two : List ℕ) : Type 0 wh
   pub back : Settable a (m .state) → (room : ℕ) →
       lineCall room (a .set (replyTo a (m .state))) m one two ≡ answered [] m one two
 
--- demand 2: every setting makes the round trip, in every module that 11 and 9 let pass
+-- §4.7: demand 2: every setting makes the round trip, in every module that 11 and 9 let pass (§1.4)
 abbrev pub Demand2 : Type 0
 Demand2 =
     (a : Address) → IsSetting a → (m : Module) (one two : List ℕ) → Ready m one two → Internal a (m .state) →

@@ -1,4 +1,5 @@
--- Before a line: the high course measures the highest frequency that can be taken and has a trigger; then no event leads out from between the two.
+-- Before a line: the high course measures the highest frequency that can be taken and has a trigger; then no event
+-- leads out from between the two.
 use Prim.Native.Nat.{ℕ, _*_, _/_, _≤_}
 use native.Mathlib.Omega.{arith}
 use native.Mathlib.Nat.{mul-div-le, le-div-iff-mul-le, mul-comm}

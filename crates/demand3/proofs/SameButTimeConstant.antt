@@ -1,4 +1,5 @@
--- Settings that are alike up to the time constant, which decides no refusal: commands keep them alike, and no rule tells them apart.
+-- Settings that are alike up to the time constant, which decides no refusal: commands keep them alike, and no rule
+-- tells them apart.
 use Prim.Native.Nat.{ℕ}
 use native.Mathlib.Omega.{arith}
 use mathlib.Core.Bool.{Bool, true, false, cond}

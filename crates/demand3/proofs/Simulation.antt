@@ -1,4 +1,5 @@
--- A course's acquisition lies between those of the low and the high course, under the settings that all have: one command keeps it so.
+-- A course's acquisition lies between those of the low and the high course, under the settings that all have: one
+-- command keeps it so.
 use Prim.Native.Nat.{ℕ, _+_, _≤_}
 use native.Mathlib.Omega.{arith}
 use native.Mathlib.Nat.{mul-le-mul-left}

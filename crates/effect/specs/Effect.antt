@@ -1,4 +1,4 @@
--- What a command that is not refused changes: document 01, "Settings", "Storing points" and "Events, status, identity".
+-- What a command that is not refused changes: §1.1, §5.4, §6.6, §6.7, §7.2, §7.6, §10.2, §10.3, §10.4 and §11.2.
 use Prim.Native.Nat.{ℕ}
 use mathlib.Core.Bool.{Bool, true, false, cond}
 use Rattle.settings.specs.Table.{startSettings, nextEntry, withValue}
@@ -25,7 +25,7 @@ use Rattle.state.specs.Storing.{sampledBy}
 use Rattle.state.specs.declared.Acquisition.{Acquisition}
 use Rattle.state.specs.declared.State.{State}
 
--- whether an action is *RST
+-- §11.2: whether an action is *RST
 abbrev pub isRst : Action → Bool
 isRst Reset = true
 isRst Clear = false
@@ -36,22 +36,22 @@ isRst Trigger = false
 
 -- ---- the settings: a set keeps its value, *RST takes all to their start
 
--- two values, the second at the entry after the first's
+-- §5.1: two values, the second at the entry after the first's, as DDEF and OEXP set them
 unfoldable pub withPair : Settings → ℕ → ℕ → ℕ → Settings
 withPair s entry v w = withValue (withValue s entry v) (nextEntry entry) w
 
--- the settings after a set
+-- §5.4: the settings after a set: the values that it names are set, the others stay
 unfoldable pub setIn : Settings → SetArgument → Settings
 setIn s (set.Value entry v) = withValue s entry v
 setIn s (set.Pair entry v w) = withPair s entry v w
 setIn s (set.Enable r v) = s
 setIn s (set.EnableBit r i v) = s
 
--- the settings after an action
+-- §11.2: the settings after an action: *RST takes each to its start
 unfoldable pub restoredBy : Action → Settings → Settings
 restoredBy a s = cond (isRst a) startSettings s
 
--- the settings after a command, but for what a crossing of 200 Hz does
+-- §1.1: the settings after a command, but for what a crossing of 200 Hz does (§6.6)
 unfoldable pub settingsAfter : Kind → Settings → Settings
 settingsAfter (Set a) s = setIn s a
 settingsAfter (Query q) s = s
@@ -63,7 +63,7 @@ settingsAfter (Act a) s = restoredBy a s
 abbrev pub unstored : Storage → StorageStep
 unstored t = record { storage = t; stores = false; bits = 0 }
 
--- what an action does to storage
+-- §7.2, §7.6 and §11.2: what an action does to storage
 unfoldable pub storageBy : Action → Storage → ℕ → Sampling → StorageStep
 storageBy Reset t capacity by = unstored emptiedStorage
 storageBy Clear t capacity by = unstored t
@@ -72,7 +72,7 @@ storageBy Pause t capacity by = unstored (pausedOf t)
 storageBy Empty t capacity by = unstored emptiedStorage
 storageBy Trigger t capacity by = triggeredOf t capacity by
 
--- what a command does to storage
+-- §1.1: what a command does to storage: sets and queries leave it as it is
 unfoldable pub storageAfter : Kind → Settings → Acquisition → ℕ → StorageStep
 storageAfter (Set a) s m capacity = unstored (m .storage)
 storageAfter (Query q) s m capacity = unstored (m .storage)
@@ -80,24 +80,24 @@ storageAfter (Act a) s m capacity = storageBy a (m .storage) capacity (samplingO
 
 -- ---- the acquisition: storage, and the external frequency, which *RST takes to its start
 
--- the external frequency after an action
+-- §11.2: the external frequency after an action: *RST takes it to its start
 unfoldable pub externalBy : Action → ℕ → ℕ
 externalBy a f = cond (isRst a) externalStart f
 
--- the external frequency after a command
+-- §1.1: the external frequency after a command: sets and queries leave it as it is
 unfoldable pub externalAfter : Kind → ℕ → ℕ
 externalAfter (Set a) f = f
 externalAfter (Query q) f = f
 externalAfter (Act a) f = externalBy a f
 
--- the acquisition after a command
+-- §7.2, §7.6 and §11.2: the acquisition after a command: its storage and its external frequency
 unfoldable pub acquisitionAfter : Kind → Settings → Acquisition → ℕ → Acquisition
 acquisitionAfter kind s m capacity =
     withStorage (storageAfter kind s m capacity .storage) (atFrequency (externalAfter kind (m .external)) m)
 
 -- ---- the registers: the query of an event register clears it, or the one bit asked for
 
--- the registers after a query
+-- §10.2: the registers after a query; §10.6: *STB? clears none
 unfoldable pub registersAsked : QueryArgument → Registers → Registers
 registersAsked (query.Status which) r = clearedOf r which
 registersAsked (query.StatusBit which i) r = bitCleared r which i
@@ -111,7 +111,7 @@ registersAsked (query.Trace form t bin count) r = r
 
 -- ---- the enables, each set whole or bit by bit
 
--- the enables after a set
+-- §10.3: the enables after a set
 unfoldable pub enablesSet : SetArgument → Enables → Enables
 enablesSet (set.Enable which v) e = withEnable e which v
 enablesSet (set.EnableBit which i v) e = withEnableBit e which i v
@@ -120,26 +120,27 @@ enablesSet (set.Pair entry v w) e = e
 
 -- ---- the state: what no definition above changes stays
 
--- the state after a set: the setting or the enable that it names, and what a crossing of 200 Hz does
+-- §5.4 and §10.3: the state after a set: the setting or the enable that it names; §6.6 and §6.7: and what a crossing of
+-- 200 Hz does
 abbrev pub setBy : SetArgument → State → State
 setBy a s =
     crossedFrom (detectionNow s) (withSettings (setIn (s .settings) a) (withEnables (enablesSet a (s .enables)) s))
 
--- the state after a query
+-- §10.2: the state after a query
 abbrev pub queriedBy : QueryArgument → State → State
 queriedBy q s = withRegisters (registersAsked q (s .registers)) s
 
--- the state after *RST, which does p to storage: settings and external frequency start anew; no crossing's rule
+-- §11.2: the state after *RST, which does p to storage: settings and external frequency start anew; no crossing's rule
 -- follows, so no LIA bit is set
 abbrev pub resetBy : StorageStep → State → State
 resetBy p s =
     withStorageOf p (withSettings startSettings (withAcquisition (atFrequency externalStart (s .acquisition)) s))
 
--- the state after *CLS, which does p to storage: all three registers are cleared
+-- §10.4: the state after *CLS, which does p to storage: all three registers are cleared
 abbrev pub clearedBy : StorageStep → State → State
 clearedBy p s = withStorageOf p (withRegisters allCleared s)
 
--- the state after an action that does p to storage; after TRIG it is the trigger event's
+-- §7.2, §10.4 and §11.2: the state after an action that does p to storage; §7.6: after TRIG it is the trigger event's
 abbrev pub actedBy : Action → StorageStep → State → State
 actedBy Reset p s = resetBy p s
 actedBy Clear p s = clearedBy p s
@@ -148,12 +149,12 @@ actedBy Pause p s = withStorageOf p s
 actedBy Empty p s = withStorageOf p s
 actedBy Trigger p s = sampledBy p s
 
--- the state after a command that does p to storage
+-- §1.1: the state after a command that does p to storage
 abbrev pub stateBy : Kind → StorageStep → State → State
 stateBy (Set a) p s = setBy a s
 stateBy (Query q) p s = queriedBy q s
 stateBy (Act a) p s = actedBy a p s
 
--- the state after a command that is not refused
+-- §1.1: the state after a command that is not refused
 unfoldable pub stateAfter : Kind → State → State
 stateAfter kind s = stateBy kind (storageAfter kind (s .settings) (s .acquisition) (s .installation .capacity)) s

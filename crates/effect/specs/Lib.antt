@@ -1,2 +1,2 @@
--- What a command changes.
+-- What a command changes: §1.1.
 pub mod Effect

@@ -1,4 +1,4 @@
--- What an event does to the state and the traces: document 01, "Events, status, identity" and "Storing points".
+-- What an event does to the state and the traces: §7.6, §7.7, §9.1, §9.2, §9.3, §9.4, §9.5 and §12.6.
 use Prim.Native.Nat.{ℕ, _*_, _^_}
 use mathlib.Core.Bool.{Bool, cond, _&&_}
 use mathlib.Core.List.{List, []}
@@ -19,15 +19,15 @@ use Rattle.event.specs.declared.EventEffect.{EventEffect}
 use Rattle.event.specs.declared.Event.{Event}
 use Rattle.event.specs.declared.Event.the-variants.{Latest, Tick, Trigger, Measured, Raised}
 
--- what the code gives back of an event
+-- §1.5: what the code gives back of an event
 abbrev pub eventEffect : After State Outcome → EventEffect
 eventEffect e = record { state = e .after; outcome = e .report }
 
--- an event that stores nothing
+-- §1.1: an event that stores nothing
 abbrev pub quiet : EventEffect → List ℕ → List ℕ → After State Outcome
 quiet h one two = silent (h .outcome) (h .state) one two
 
--- refusal 6: a value of the event is not legal, and nothing is done
+-- §12.6: a value of the event is not legal: 6, and nothing is done
 abbrev pub refused : State → EventEffect
 refused s = record { state = s; outcome = Refused BadEvent }
 
@@ -35,36 +35,37 @@ refused s = record { state = s; outcome = Refused BadEvent }
 abbrev pub done : State → EventEffect
 done s = record { state = s; outcome = Done }
 
--- a new latest pair: one point for each trace
+-- §9.1: a new latest pair, one legal point for each trace; else 6
 unfoldable pub latestTaken : ℕ → ℕ → State → EventEffect
 latestTaken w v s = cond (latestValid (pairOf w v)) (done (withLatest (pairOf w v) s)) (refused s)
 
--- neither "outside 0.001 to 102000 Hz" nor "breaking the 102 kHz limit": asked where the external frequency is in force
+-- §9.3: a measured frequency that is in its range and keeps the detection frequency within its limit: asked where the
+-- external frequency is in force
 unfoldable pub takesFrequency : State → ℕ → Bool
 takesFrequency s f = frequencyInRange f && withinLimit (valueOf (s .settings) harm * f)
 
--- a state with another external frequency
+-- §6.1: a state with another external frequency
 abbrev pub withExternal : ℕ → State → State
 withExternal f s = withAcquisition (atFrequency f (s .acquisition)) s
 
--- LIA bit 3
+-- §9.3: LIA bit 3
 abbrev pub notTaken : ℕ
 notTaken = 2 ^ 3
 
--- a measured frequency: ignored in internal mode; one that is out of its range, or with which the detection frequency
--- would pass its limit, is left aside with LIA bit 3 set, and the event still ends as done
+-- §9.2: a measured frequency is ignored in internal mode; §9.3: one that is not taken sets LIA bit 3, and the event
+-- still ends as done; §6.6 and §6.7: one that is taken may cross 200 Hz
 unfoldable pub measuredBy : ℕ → State → State
 measuredBy f s =
     cond (isInternal (s .settings)) s
     (cond (takesFrequency s f) (crossedFrom (detectionNow s) (withExternal f s))
     (withRegisters (withLia (s .registers) notTaken) s))
 
--- bits that are raised from outside, where an event may raise them
+-- §9.4: bits that are raised from outside, where an event may raise them; else 6
 unfoldable pub bitsRaised : ℕ → ℕ → State → EventEffect
 bitsRaised lia errors s =
     cond (mayRaise lia errors) (done (withRegisters (withRaised (s .registers) lia errors) s)) (refused s)
 
--- a trigger or a tick: the latest pair goes into the traces where it is stored
+-- §7.6 and §7.7: a trigger or a tick: the latest pair goes into the traces where it is stored
 unfoldable pub sampledIn : StorageStep → State → List ℕ → List ℕ → After State Outcome
 sampledIn p s one two =
     record {
@@ -75,7 +76,7 @@ sampledIn p s one two =
       report = Done;
     }
 
--- "Events: a new latest pair .., tick, trigger, measured frequency, raised bits"
+-- §9.1, §9.2, §9.3, §9.4 and §9.5: what each event does
 unfoldable pub eventOf : Event → State → List ℕ → List ℕ → After State Outcome
 eventOf (Latest w v) s one two = quiet (latestTaken w v s) one two
 eventOf Tick s one two = sampledIn (tickOf s) s one two

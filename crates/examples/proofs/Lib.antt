@@ -1,3 +1,3 @@
--- Document 01's examples, proved.
+-- The examples, proved.
 pub mod Examples
 pub mod Scripts

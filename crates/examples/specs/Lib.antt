@@ -1,3 +1,3 @@
--- Document 01's examples.
+-- The examples, and two scripts: §13.4, §13.7 and §13.8.
 pub mod Examples
 pub mod Scripts

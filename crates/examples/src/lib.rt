@@ -1,1 +1,1 @@
-// No function of its own: document 01's examples on both sides, as one table.
+// No function of its own: the examples, as one table, and two scripts.

@@ -1,4 +1,4 @@
--- The two courses that the check follows, under one settings value: document 01, "The script check".
+-- The two courses that the check follows, under one settings value: §13.4, §13.5 and §13.9.
 use Prim.Native.Nat.{ℕ, _/_}
 use mathlib.Core.Bool.{Bool, false, cond, _&&_, _||_}
 use Rattle.outcome.specs.declared.Refusal.the-variants.{NotAllowed, NoReset}
@@ -20,22 +20,23 @@ use Rattle.effect.specs.Effect.{isRst, settingsAfter, acquisitionAfter}
 use Rattle.extreme_courses.specs.declared.Model.{Model}
 use Rattle.extreme_courses.specs.declared.Extremes.{Extremes}
 
--- whether a command is *RST
+-- §13.4: whether a command is *RST
 unfoldable pub resets : Kind → Bool
 resets (Set a) = false
 resets (Query q) = false
 resets (Act a) = isRst a
 
--- before each line the high course measures the highest frequency that is taken, the limit over the harmonic ..
+-- §13.9: before each line the high course measures the highest frequency that is taken, the limit over the harmonic,
+-- where FMOD is 0 ..
 unfoldable pub measuredHigh : Settings → Acquisition → Acquisition
 measuredHigh s m =
     cond (isInternal s) m (atFrequency (detectionLimit / valueOf s harm) m)
 
--- .. and then has a trigger
+-- §13.9: .. and then has a trigger
 unfoldable pub triggeredHigh : ℕ → Settings → Acquisition → Acquisition
 triggeredHigh capacity s m = withStorage (triggeredOf (m .storage) capacity (samplingOf s) .storage) m
 
--- what can happen before a line
+-- §13.9: what comes before a line: nothing in the low course, the two events in the high one
 unfoldable pub beforeLine : Model → Extremes → Extremes
 beforeLine model b =
     record {
@@ -45,7 +46,8 @@ beforeLine model b =
       high = triggeredHigh (model .capacity) (b .settings) (measuredHigh (b .settings) (b .high));
     }
 
--- before *RST has begun the script every other command is 7; afterwards 3 where one of the two courses refuses
+-- §13.4: before *RST has begun the script every other command is 7; §13.5: afterwards 3 where one of the two courses
+-- refuses
 unfoldable pub kindRefusal : Kind → Extremes → Outcome
 kindRefusal kind b =
     cond (b .begun)
@@ -53,13 +55,13 @@ kindRefusal kind b =
     (outcome.Refused NotAllowed))
     (cond (resets kind) outcome.Done (outcome.Refused NoReset))
 
--- the same of a command as it is read: 1 and 2 are its text's own
+-- §13.4 and §13.5: the same of a command as it is read: 1 and 2 are its text's own, and an empty one is not refused
 unfoldable pub textRefusal : Parsed → Extremes → Outcome
 textRefusal parsed.Empty b = outcome.Done
 textRefusal (parsed.Refused r) b = outcome.Refused (cond (b .begun) r NoReset)
 textRefusal (parsed.Taken c) b = kindRefusal (c .kind) b
 
--- past a command that no course refuses
+-- §13.9: both courses past a command that no course refuses
 unfoldable pub kindAfter : Model → Kind → Extremes → Extremes
 kindAfter model kind b =
     record {
@@ -69,12 +71,12 @@ kindAfter model kind b =
       high = acquisitionAfter kind (b .settings) (b .high) (model .capacity);
     }
 
--- what is carried past a command's text
+-- §13.9: what is carried past a command's text
 unfoldable pub textAfter : Model → Parsed → Extremes → Extremes
 textAfter model parsed.Empty b = b
 textAfter model (parsed.Refused r) b = b
 textAfter model (parsed.Taken c) b = kindAfter model (c .kind) b
 
--- what is carried into a script
+-- §13.4 and §13.9: what is carried into a script: *RST has not begun it, and all else is as *RST leaves it
 abbrev pub startExtremes : Extremes
 startExtremes = record { begun = false; settings = startSettings; low = startAcquisition; high = startAcquisition }

@@ -14,8 +14,8 @@ use outcome::Refusal;
 use settings::Settings;
 use state::Acquisition;
 
-// What the check is told of the modules that may run a script: how many points each of their traces holds. Document 01,
-// "The script check", tells it nothing else.
+// §13.2: what the check is told of the modules that may run a script: how many points each of their traces holds, and
+// nothing else.
 pub struct Model {
     pub capacity: u32,
 }

@@ -1,3 +1,3 @@
--- The invariant: what the machine can hold, and that valid modules stay valid.
+-- The invariant: what the machine can hold, and that valid modules stay valid (§12.11).
 pub mod Representable
 pub mod StaysValid

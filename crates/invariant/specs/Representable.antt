@@ -1,6 +1,6 @@
 -- What the machine can hold: the modules, traces and events that there can be. The definitions of the calls speak of
 -- numbers of any size; the fields of a module, the words of a trace and the values of an event have the sizes given
--- here, so a claim that there is such a module, trace or event asks for these too.
+-- here, so a claim that there is such a module, trace or event (§13.6) asks for these too.
 use Prim.Native.Nat.{ℕ, _^_, _<_}
 use mathlib.Core.Path.{_≡_}
 use mathlib.Core.List.{List, [], _∷_}
@@ -19,7 +19,7 @@ use Rattle.module.specs.declared.Module.{Module}
 abbrev pub Byte : ℕ → Type 0
 Byte x = x < 2 ^ 8
 
--- a word of 32 bits
+-- §7.1: a word of 32 bits
 abbrev pub Word : ℕ → Type 0
 Word x = x < 2 ^ 32
 
@@ -32,20 +32,20 @@ abbrev pub Every : {A : Type 0} → (A → Type 0) → List A → Type 0
 Every Such [] = Unit {0}
 Every Such (x ∷ xs) = Such x × Every Such xs
 
--- the event registers are bytes
+-- §10.1: the event registers are bytes
 pub record RegistersFit (r : Registers) : Type 0 where
   pub standard : Byte (r .standard)
   pub lia : Byte (r .lia)
   pub errors : Byte (r .errors)
 
--- the enables are bytes
+-- §10.3: the enables are bytes
 pub record EnablesFit (e : Enables) : Type 0 where
   pub standard : Byte (e .standard)
   pub service : Byte (e .service)
   pub lia : Byte (e .lia)
   pub errors : Byte (e .errors)
 
--- a state has a value for each entry of the settings table, and every value fits its field
+-- §5.1: a state has a value for each entry of the settings table, and every value fits its field
 pub record StateFits (s : State) : Type 0 where
   pub full : length (s .settings .values) ≡ entries
   pub values : Every Word (s .settings .values)
@@ -57,7 +57,7 @@ pub record StateFits (s : State) : Type 0 where
   pub latest : Word (s .latest .one) × Word (s .latest .two)
   pub installation : Word (s .installation .serial) × Byte (s .installation .port) × Word (s .installation .capacity)
 
--- a queue has as many bytes as a line may have, however many of them wait
+-- §2.3: a queue has as many bytes as a line may have, however many of them wait
 pub record QueueFits (q : Queue) : Type 0 where
   pub full : length (q .bytes) ≡ lineLimit
   pub bytes : Every Byte (q .bytes)

@@ -1,5 +1,4 @@
--- Valid states stay valid, so that refusal 11 never meets a state that we made: document 01, refusal 11, and
--- refusal 9 for the traces.
+-- Valid states stay valid, so that 11 never refuses a state that we made (§1.4, §12.11), nor 9 its traces (§12.9).
 use Prim.Native.Nat.{ℕ}
 use mathlib.Core.Bool.{Bool, true}
 use mathlib.Core.Path.{_≡_}
@@ -21,15 +20,15 @@ use Rattle.module.specs.declared.Module.{Module}
 use Rattle.lockin.specs.Start.{startCall}
 use Rattle.lockin.specs.Calls.{lineCall, byteCall, eventCall}
 
--- from a state and its traces to others: a valid state stays valid, what is fixed at start stays, and each trace
--- keeps its length
+-- §12.11: from a state and its traces to others: a valid state stays valid, what is fixed at start stays, and each
+-- trace keeps its length
 pub record StatePreserved (before after : State) (one two first second : List ℕ) : Type 0 where
   pub valid : validState before ≡ true → validState after ≡ true
   pub installation : after .installation ≡ before .installation
   pub first-length : length first ≡ length one
   pub second-length : length second ≡ length two
 
--- a fresh state is valid, and every command, every line and every event leads from a valid state to a valid one
+-- §12.11: a fresh state is valid, and every command, every line and every event leads from a valid state to a valid one
 pub record StatesStay : Type 0 where
   pub start : (u : Installation) → installationValid u ≡ true → validState (startState u) ≡ true
   pub command : (room : ℕ) (waiting : Bool) (text : List ℕ) (s : State) (one two : List ℕ) →
@@ -42,29 +41,29 @@ pub record StatesStay : Type 0 where
       let e = eventOf event s one two in
       StatePreserved s (e .after) one two (e .one) (e .two)
 
--- from a module and its traces to others: a valid module stays valid, and where neither 11 (the state) nor 9 (the
--- traces) refuses a call, neither refuses the next one; the queue's bytes stay as many
+-- §1.4: from a module and its traces to others: a valid module stays valid, and where neither 11 (the state, §12.11)
+-- nor 9 (the traces, §12.9) refuses a call, neither refuses the next one; the queue's bytes stay as many
 pub record ModulePreserved (before after : Module) (one two first second : List ℕ) : Type 0 where
   pub valid : validModule before ≡ true → validModule after ≡ true
   pub next : guardOf before (length one) (length two) ≡ Done → guardOf after (length first) (length second) ≡ Done
   pub queued : length (after .queue .bytes) ≡ length (before .queue .bytes)
 
--- a module that the calls made, each with any traces
+-- §12.11: a module that the calls made, each with any traces
 pub data Reachable : Module → Type 0 where
-  -- by a start, refused or not
+  -- §1.2 and §1.3: by a start, refused or not
   byStart : (serial port first second : ℕ) → Reachable (startCall serial port first second .after)
-  -- by a line handed over whole
+  -- §2.4: by a line handed over whole
   byLine : (room : ℕ) (bytes : List ℕ) (m : Module) (one two : List ℕ) → Reachable m →
       Reachable (lineCall room bytes m one two .after)
-  -- by a byte
+  -- §2.2: by a byte
   byByte : (room b : ℕ) (mark : Bool) (m : Module) (one two : List ℕ) → Reachable m →
       Reachable (byteCall room b mark m one two .after)
   -- by an event
   byEvent : (event : Event) (m : Module) (one two : List ℕ) → Reachable m → Reachable (eventCall event m one two .after)
 
--- every start, refused ones too, gives a valid module whose queue has all its bytes; where the start is not refused,
--- 9 does not refuse the traces either; every line, byte and event leads on from there, so that no module that we made
--- is refused by 11
+-- §12.11: every start, refused ones too (§1.3), gives a valid module whose queue has all its bytes; where the start is
+-- not refused, 9 does not refuse the traces either; §1.4: every line, byte and event leads on from there, so that no
+-- module that we made is refused by 11
 pub record StaysValid : Type 0 where
   pub start : (serial port first second : ℕ) → validModule (startCall serial port first second .after) ≡ true
   pub started : (serial port first second : ℕ) → startCall serial port first second .outcome ≡ Done →

@@ -16,7 +16,8 @@ use Rattle.line.specs.Parts.{progressOf, lineReached}
 use Rattle.reply_buffer.specs.After.{Meets}
 use Rattle.line_text.specs.Texts.{semicolon}
 
--- what is left of the line does from here what the whole does from the start; the room past the bytes written is as it was
+-- what is left of the line does from here what the whole does from the start; the room past the bytes written is as it
+-- was
 pub record OnWay (text one₀ two₀ reply₀ : List ℕ) (p₀ : Progress) (one two reply : List ℕ) (p : Progress) (a : ℕ) : Type 0 where
   pub inside : a ≤ length text
   pub same :

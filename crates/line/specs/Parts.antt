@@ -1,4 +1,5 @@
--- What the code gives back for a command and for a line on its way. No promise of a public call speaks of these.
+-- What the code gives back for a command and for a line on its way (§2.6, §2.7). No promise of a public call speaks of
+-- these.
 use Prim.Native.Nat.{ℕ, _+_}
 use mathlib.Core.List.{List}
 use lib.ListN.{length, take}
@@ -23,8 +24,8 @@ commandResult e = record { state = e .after; written = length (e .out); outcome 
 abbrev pub refusedWith : Refusal → State → CommandResult
 refusedWith r s = record { state = withErrorBit r s; written = 0; outcome = outcome.Refused r }
 
--- the commands that the code runs of a line of any length: those among its first bytes that count, as many as a line
--- may have, which are all where the line is not too long
+-- the commands that the code runs of a line of any length: those among its first bytes that count (§2.5), as many as a
+-- line may have, which are all where the line is not too long
 abbrev pub textsRun : List ℕ → List (List ℕ)
 textsRun line = parts semicolon (take lineLimit (cleaned line))
 

@@ -1,4 +1,4 @@
--- What one command does to the state, the traces and the reply: document 01, "Refusal numbers".
+-- What one command does to the state, the traces and the reply: §1.1, §2.6, §12.1, §12.2, §12.3, §12.4 and §12.12.
 use Prim.Native.Nat.{ℕ}
 use mathlib.Core.Bool.{Bool, cond}
 use mathlib.Core.List.{List}
@@ -19,23 +19,23 @@ use Rattle.reply_buffer.specs.Buffer.{fitsIn}
 use Rattle.reply_buffer.specs.After.{After, silent}
 use Rattle.reply.specs.Reply.{replyOf}
 
--- what a command leaves, and whether it was refused
+-- §1.1: what a command leaves, and whether it was refused
 abbrev pub Effect : Type 0
 Effect = After State Outcome
 
--- a refused command: its error bit, and nothing else
+-- §12.1, §12.2, §12.3 and §12.4: a refused command: its error bit, and nothing else
 abbrev pub refusedBy : Refusal → State → List ℕ → List ℕ → Effect
 refusedBy r s one two = silent (outcome.Refused r) (withErrorBit r s) one two
 
--- an empty command: "empty ones do nothing"
+-- §2.6: an empty command, which does nothing
 abbrev pub nothing : State → List ℕ → List ℕ → Effect
 nothing s one two = silent outcome.Done s one two
 
--- what a command does to storage
+-- §7.2 and §7.6: what a command does to storage
 abbrev pub storageStepBy : Kind → State → StorageStep
 storageStepBy kind s = storageAfter kind (s .settings) (s .acquisition) (s .installation .capacity)
 
--- a command that is not refused
+-- §1.1: a command that is not refused; §7.6: where it is TRIG it may store the latest pair
 unfoldable pub doneBy : Kind → List ℕ → State → List ℕ → List ℕ → Effect
 doneBy kind reply s one two =
     record {
@@ -46,7 +46,8 @@ doneBy kind reply s one two =
       report = outcome.Done;
     }
 
--- "for each command 1, 2 .., 3, 4": 3, "not allowed in this state"; then 4, "reply exceeds the room left"
+-- §12.12: 3 comes first, where the state does not allow the command (§12.3); then 4, where its reply does not fit
+-- (§12.4)
 unfoldable pub performed : ℕ → Bool → Kind → State → List ℕ → List ℕ → Effect
 performed room waiting kind s one two =
     let reply = replyOf kind s waiting one two in
@@ -54,7 +55,7 @@ performed room waiting kind s one two =
     (cond (fitsIn reply room) (doneBy kind reply s one two) (refusedBy NoRoom s one two))
     (refusedBy NotAllowed s one two)
 
--- a command's text as it is read: refused by 1 or 2, empty, or performed
+-- §12.12: a command's text as it is read: refused by 1 or 2, empty, or performed
 unfoldable pub commandOf : ℕ → Bool → Parsed → State → List ℕ → List ℕ → Effect
 commandOf room waiting Empty s one two = nothing s one two
 commandOf room waiting (Refused r) s one two = refusedBy r s one two

@@ -1,4 +1,5 @@
--- What the public calls do: Start and Calls, which their promises cite; Parts, which only inner functions are held to.
+-- What the public calls do (§1.1): Start and Calls, which their promises cite; Parts, which only inner functions are
+-- held to.
 pub mod Start
 pub mod Calls
 pub mod Parts

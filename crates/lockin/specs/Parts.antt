@@ -1,4 +1,4 @@
--- What only the code's inner functions are held to. No public call's promise speaks of these.
+-- What only the code's inner functions are held to (§1.4, §1.5). No public call's promise speaks of these.
 use Prim.Native.Nat.{ℕ}
 use mathlib.Core.Bool.{Bool, false, cond}
 use mathlib.Core.Path.{_≡_}
@@ -14,7 +14,7 @@ use Rattle.reply_buffer.specs.After.{After}
 use Rattle.line.specs.declared.Progress.{Progress}
 use Rattle.lockin.specs.declared.StateResult.{StateResult}
 
--- the length reported of a line as the code has it
+-- §1.5: the length reported of a line as the code has it
 abbrev pub lengthOf : Progress → ℕ
 lengthOf p = cond (p .dropped) 0 (p .at)
 
@@ -22,7 +22,7 @@ lengthOf p = cond (p .dropped) 0 (p .at)
 abbrev pub resultOf : After State Report → StateResult
 resultOf step = record { state = step .after; report = step .report }
 
--- what a byte does to the queue's numbers: nothing where it is refused
+-- §1.4: what a byte does to the queue's numbers: nothing where it is refused
 unfoldable pub GuardedStep : Outcome → ℕ → Bool → ℕ → ℕ → Bool → QueueStep → Type 0
 GuardedStep outcome.Done len discarding port b mark r =
     Describes (λ bytes. receivedOf (queueOf bytes len discarding) port b mark) len b r

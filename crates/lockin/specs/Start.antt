@@ -1,4 +1,4 @@
--- The start: document 01, refusals 10 and 9, and the module of a refused start.
+-- The start: §1.2 and §1.3; its refusals: §12.9, §12.10 and §12.12.
 use Prim.Native.Nat.{ℕ}
 use mathlib.Core.Bool.{cond}
 use Rattle.outcome.specs.declared.Refusal.{Refusal}
@@ -10,12 +10,13 @@ use Rattle.queue.specs.Queue.{gpib}
 use Rattle.module.specs.Start.{installationKnown, tracesFit, freshModule}
 use Rattle.lockin.specs.declared.StartResult.{StartResult}
 
--- a refused start gives the module with serial number 0, on GPIB, of the least capacity
+-- §1.3: a refused start gives the module with serial number 0, on GPIB, of the least capacity
 abbrev pub refusedStart : Refusal → StartResult
 refusedStart r =
     record { after = freshModule (installationOf 0 gpib capacityLeast); outcome = Refused r }
 
--- 10 is asked before 9; the traces are not written
+-- §1.2: a fresh module over two traces of these lengths, which are not written; §1.3, §12.10 and §12.12: 10 is asked
+-- before 9 (§12.9)
 unfoldable pub startCall : ℕ → ℕ → ℕ → ℕ → StartResult
 startCall serial port first second =
     cond (installationKnown serial port)

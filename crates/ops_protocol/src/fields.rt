@@ -72,7 +72,7 @@ pub const ERRE: usize = LIAE + 1;
 // The bytes that wait for their line's end.
 pub const QUEUE: usize = ERRE + 1;
 
-// Whether bytes are dropped until their line's end.
+// Whether bytes are discarded until their line's end.
 pub const DROPPING: usize = QUEUE + 1;
 
 // How many fields there are.

@@ -153,7 +153,7 @@ fn with_setting(s: State, entry: usize, value: u32) -> State {
     t
 }
 
-// The queue that drops bytes until their line's end where the value is 1.
+// The queue that discards bytes until their line's end where the value is 1.
 fn with_discarding(q: Queue, value: u32) -> Queue {
     let mut t = q;
     t.discarding = value == 1;

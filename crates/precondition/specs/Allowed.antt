@@ -1,4 +1,4 @@
--- Whether the state allows a command (refusal 3): the rules on FREQ, HARM, FMOD, OFLT, SEND and trace reads.
+-- Whether the state allows a command, refusal 3 (§12.3): §6.3, §6.4, §6.5, §7.5 and §8.4.
 use Prim.Native.Nat.{ℕ}
 use mathlib.Core.Bool.{Bool, true, cond, _&&_}
 use lib.Dec.{eqb}
@@ -14,12 +14,12 @@ use Rattle.command.specs.declared.Kind.{Kind}
 use Rattle.command.specs.declared.Kind.the-variants.{Set, Query, Act}
 use Rattle.state.specs.declared.Acquisition.{Acquisition}
 
--- whether the detection frequency is within its limit with another value at an entry
+-- §6.3: whether the detection frequency is within its limit with another value at an entry
 unfoldable pub staysWithinLimit : Settings → Acquisition → ℕ → ℕ → Bool
 staysWithinLimit s m entry v = withinLimit (detectionOf (withValue s entry v) (m .external))
 
--- FREQ in internal mode only, and FREQ, HARM and FMOD only within the limit; OFLT by the time constants that may stand;
--- SEND only while storage is reset; any other setting always
+-- §6.4: FREQ in internal mode only; §6.3: FREQ, HARM and FMOD only within the limit; §6.5: OFLT by the time constants
+-- that may stand; §7.5: SEND only while storage is reset; any other setting always
 unfoldable pub valueAllowed : Settings → Acquisition → ℕ → ℕ → Bool
 valueAllowed s m entry v =
     cond (eqb entry freq) (isInternal s && staysWithinLimit s m entry v)
@@ -28,14 +28,14 @@ valueAllowed s m entry v =
     (cond (eqb entry oflt) (timeConstantStands (detectionOf s (m .external)) v)
     (cond (eqb entry send) (isReset (m .storage)) true))))
 
--- whether a set is allowed
+-- §12.3: whether a set is allowed: one value by its entry, pairs and enables always
 unfoldable pub setAllowed : Settings → Acquisition → SetArgument → Bool
 setAllowed s m (set.Value entry v) = valueAllowed s m entry v
 setAllowed s m (set.Pair entry v w) = true
 setAllowed s m (set.Enable r v) = true
 setAllowed s m (set.EnableBit r i v) = true
 
--- "j+k above SPTS is refused"
+-- §8.4: a trace is read only as far as points are held; any other query is allowed always
 unfoldable pub queryAllowed : Acquisition → QueryArgument → Bool
 queryAllowed m (query.Trace form t bin count) = holdsOf (m .storage) bin count
 queryAllowed m (query.Value entry) = true
@@ -47,7 +47,7 @@ queryAllowed m (query.StatusBit r i) = true
 queryAllowed m query.Identity = true
 queryAllowed m query.Points = true
 
--- whether a command is allowed
+-- §12.3: whether a command is allowed; where it is not, 3 refuses it. Actions are allowed always
 unfoldable pub isAllowed : Settings → Acquisition → Kind → Bool
 isAllowed s m (Set a) = setAllowed s m a
 isAllowed s m (Query q) = queryAllowed m q

@@ -1,2 +1,2 @@
--- What a command needs of the state.
+-- What a command needs of the state: §12.3.
 pub mod Allowed

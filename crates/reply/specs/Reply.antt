@@ -1,4 +1,4 @@
--- What a command replies: document 01, "Settings", "Storing points" and "Events, status, identity".
+-- What a command replies: §7.9, §8.1, §8.3 and §11.3.
 use Prim.Native.Nat.{ℕ, _+_}
 use mathlib.Core.Bool.{Bool, cond}
 use mathlib.Core.List.{List, [], _∷_, _++_}
@@ -14,20 +14,21 @@ use Rattle.reply_buffer.specs.Buffer.{pointBytes}
 use Rattle.state.specs.declared.State.{State}
 use Rattle.reply.specs.Text.{textOf, terminatorOf}
 
--- a text with the byte that ends it on the port
+-- §11.3: a text with the byte that ends it on the port
 unfoldable pub terminatedText : QueryArgument → State → Bool → List ℕ
 terminatedText q s waiting = textOf q s waiting ++ (terminatorOf (s .installation .port) ∷ [])
 
--- "i is 1-2"
+-- §8.1: trace 1 or trace 2
 abbrev pub traceOf : ℕ → List ℕ → List ℕ → List ℕ
 traceOf t one two = cond (eqb t 1) one two
 
--- a trace read: its points from a bin on, bins counted from the oldest point; no terminator follows
+-- §8.1: a trace read: its points from a bin on; §7.9: bins (a term of document 01) are counted from the oldest point;
+-- §8.3: no end follows
 unfoldable pub traceReply : State → Form → ℕ → ℕ → ℕ → List ℕ → List ℕ → List ℕ
 traceReply s form t bin count one two =
     pointBytes form (traceOf t one two) (oldestOf (s .acquisition .storage) (s .installation .capacity) + bin) count
 
--- what a query replies: points for a trace read, a text for every other one
+-- §8.1 and §11.3: what a query replies: points for a trace read, a text with its end for every other one
 unfoldable pub queryReply : QueryArgument → State → Bool → List ℕ → List ℕ → List ℕ
 queryReply (Trace form t bin count) s waiting one two = traceReply s form t bin count one two
 queryReply (Value entry) s waiting one two = terminatedText (Value entry) s waiting
@@ -39,7 +40,7 @@ queryReply (StatusBit which i) s waiting one two = terminatedText (StatusBit whi
 queryReply Identity s waiting one two = terminatedText Identity s waiting
 queryReply Points s waiting one two = terminatedText Points s waiting
 
--- only queries reply
+-- §1.1: only queries reply
 unfoldable pub replyOf : Kind → State → Bool → List ℕ → List ℕ → List ℕ
 replyOf (Set a) s waiting one two = []
 replyOf (Query q) s waiting one two = queryReply q s waiting one two

@@ -26,7 +26,7 @@ fn send_text(s: State, q: QueryArgument, waiting: bool, out: &mut [u8]) -> Sent
     reply_buffer::send(ending, out)
 }
 
-// The place of a bin's point.
+// The index of a bin's point.
 fn point_index(s: Storage, capacity: u32, bin: u32) -> u64
     ensures { λ r. ⌜ r ≡ oldestOf s capacity + bin ⌝ }
 {

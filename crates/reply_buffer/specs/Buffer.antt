@@ -1,4 +1,4 @@
--- What is written of a reply: document 01, "Storing points" and refusal 4.
+-- What is written of a reply: §1.1, §8.1, §8.2, §12.4 and §12.13.
 use Prim.Native.Nat.{ℕ, zero, suc, _%_}
 use mathlib.Core.Bool.{Bool, cond}
 use mathlib.Core.List.{List, [], _++_}
@@ -9,30 +9,30 @@ use Rattle.point.specs.Bytes.{littleEndian}
 use Rattle.mnemonic.specs.declared.Form.{Form}
 use Rattle.mnemonic.specs.declared.Form.the-variants.{Words, Floats}
 
--- a command's room begins after the bytes that the line has written: after a reply it has the reply's own bytes, then
--- those that stood there
+-- §12.13: a command's room (a term of document 01) begins after the bytes that the line has written; §1.1: after a
+-- reply it has the reply's own bytes, then those that stood there
 unfoldable pub overwrite : List ℕ → List ℕ → List ℕ
 overwrite bytes room = bytes ++ drop (length bytes) room
 
--- "reply exceeds the room left": then it does not fit
+-- §12.4: a reply that is longer than the room left does not fit; §12.13: an exact fit passes
 unfoldable pub fitsIn : List ℕ → ℕ → Bool
 fitsIn bytes room = leb (length bytes) room
 
--- the bytes that are written: all, or none where they do not fit
+-- §12.4: the bytes that are written: all, or none where they do not fit
 unfoldable pub sentBytes : List ℕ → ℕ → List ℕ
 sentBytes bytes room = cond (fitsIn bytes room) bytes []
 
--- the word at a place of a trace, where places are counted on and on round it: the one behind the last slot is slot 0
--- again; 0 of an empty trace
+-- §7.3: the word of a trace at an index that is counted on past its last slot, behind which slot 0 comes again; 0 of an
+-- empty trace
 unfoldable pub wordAt : List ℕ → ℕ → ℕ
 wordAt trace place = getD trace (place % length trace) 0
 
--- a point's word as it is sent: TRCL? sends it as it is, TRCB? as the float of the same value
+-- §8.1: a point's word as it is sent: TRCL? sends it as it is; §8.2: TRCB? sends the float of the same value
 unfoldable pub formed : Form → ℕ → ℕ
 formed Words word = word
 formed Floats word = floatOf word
 
--- points from an index on, four bytes each, low byte first
+-- §8.1: points from an index on, four bytes each, low byte first; §8.3: and no end behind them
 unfoldable pub pointBytes : Form → List ℕ → ℕ → ℕ → List ℕ
 pointBytes form trace place zero = []
 pointBytes form trace place (suc count) =

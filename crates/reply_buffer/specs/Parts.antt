@@ -1,5 +1,5 @@
--- What only inner functions are held to: what is reported of a reply, and the slot at which sending begins. No promise
--- of a public call speaks of these.
+-- What only inner functions are held to: what is reported of a reply, and the slot at which sending begins (§7.3,
+-- §12.4). No promise of a public call speaks of these.
 use Prim.Native.Nat.{ℕ, _%_}
 use mathlib.Core.Bool.{cond}
 use mathlib.Core.Path.{_≡_}
@@ -18,6 +18,6 @@ pub record Sends (bytes : List ℕ) (r : Sent) (new old : List ℕ) : Type 0 whe
   pub sent : r ≡ sentBy bytes (length old)
   pub reply : new ≡ overwrite (sentBytes bytes (length old)) old
 
--- the slot of a place, where places are counted on and on round the trace; 0 where there is no slot
+-- §7.3: the slot of an index that is counted on past the trace's last slot; 0 where there is no slot
 abbrev pub slotOf : ℕ → ℕ → ℕ
 slotOf slots place = cond (eqb slots 0) 0 (place % slots)

@@ -57,7 +57,7 @@ pub fn send(t: Text, out: &mut [u8]) -> Sent
     }
 }
 
-// The slot in which the point at a place lies; 0 where there is no slot.
+// The slot of an index that is counted on past the last slot; 0 where there is no slot.
 fn slot_of(slots: usize, place: u64) -> usize
     ensures { λ r. ⌜ r ≡ slotOf slots place ⌝ }
     ensures { λ r. ⌜ r ≤ slots ⌝ }
@@ -68,7 +68,7 @@ fn slot_of(slots: usize, place: u64) -> usize
     (place % slots as u64) as usize
 }
 
-// The word of a trace at a place: that of slot place mod length; 0 of an empty trace.
+// The word of a trace at an index that is counted on past its last slot; 0 of an empty trace.
 pub fn word_at(trace: &[u32], place: u64) -> u32
     ensures { λ r. ⌜ r ≡ wordAt (now (trace .entry)) place ⌝ }
 {
@@ -89,7 +89,7 @@ fn formed_word(form: Form, word: u32) -> u32
     }
 }
 
-// The four bytes of x, low byte first, at a place of out.
+// The four bytes of x, low byte first, at an index of out.
 fn put_word(x: u32, at: usize, out: &mut [u8])
     requires { ⌜ at + 4 ≤ length (now out) ⌝ }
     ensures { λ _. ⌜ now (out .exit)
@@ -102,7 +102,7 @@ fn put_word(x: u32, at: usize, out: &mut [u8])
     out[at + 3] = bytes[3];
 }
 
-// Points of a trace from a place on, at the front of out.
+// Points of a trace from an index on, at the front of out.
 fn put_points(trace: &[u32], first: usize, count: usize, form: Form, out: &mut [u8])
     requires { ⌜ (first + count < 18446744073709551616) × (4 * count ≤ length (now out)) ⌝ }
     ensures { λ _. ⌜ now (out .exit)
@@ -117,7 +117,7 @@ fn put_points(trace: &[u32], first: usize, count: usize, form: Form, out: &mut [
     }
 }
 
-// The points of a trace from a place on, as words or as floats, four bytes each, at the front of out where they fit;
+// The points of a trace from an index on, as words or as floats, four bytes each, at the front of out where they fit;
 // else nothing.
 pub fn send_points(trace: &[u32], place: u64, count: u32, form: Form, out: &mut [u8]) -> Sent
     ensures { λ r. ⌜ Sends (pointBytes form (now (trace .entry)) place count) r

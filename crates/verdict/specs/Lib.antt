@@ -1,3 +1,3 @@
--- A verdict in document 01's numbers, as one number, and what is read off it.
+-- A verdict in numbers (§13.8), as one number, and what is read off it (§14.4).
 pub mod Numbers
 pub mod PackedNumber

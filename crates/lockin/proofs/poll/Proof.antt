@@ -7,7 +7,7 @@ use Rattle.lockin.specs.declared.PollResult.{PollResult}
 use Rattle.lockin.proofs.poll.Statement.{statement}
 use Rattle.lockin.proofs.poll.Tie as tie
 
--- the same as document 01's number
+-- the same, and its refusal's number
 with-number : {r p : PollResult} → r ≡ p → (r ≡ p) × (numberOf (r .outcome) ≡ numberOf (p .outcome))
 with-number e = (e, ap (λ p. numberOf (p .outcome)) e)
 

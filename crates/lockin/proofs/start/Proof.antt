@@ -8,7 +8,7 @@ use Rattle.lockin.specs.declared.StartResult.{StartResult}
 use Rattle.lockin.proofs.start.Statement.{statement}
 use Rattle.lockin.proofs.start.Tie as tie
 
--- the same as document 01's number
+-- the same, and its refusal's number
 with-number : {r s : StartResult} → r ≡ s → (r ≡ s) × (numberOf (r .outcome) ≡ numberOf (s .outcome))
 with-number e = (e, ap (λ s. numberOf (s .outcome)) e)
 

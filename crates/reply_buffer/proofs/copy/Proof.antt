@@ -1,4 +1,5 @@
--- `reply_buffer::copy` meets its contract: the bytes copied so far stand at the front, the rest is as it was. Assumes nothing.
+-- `reply_buffer::copy` meets its contract: the bytes copied so far stand at the front, the rest is as it was. Assumes
+-- nothing.
 use Prim.Native.Nat.{_≤_, _-_}
 use mathlib.Core.Path.{_≡_, refl, _∙_}
 use mathlib.Core.List.{_++_}

@@ -1,5 +1,5 @@
--- `reply_buffer::put_points` meets its contract: what is written so far, then the points that are left, is the whole; the
--- measure is how many are left. Assumes nothing.
+-- `reply_buffer::put_points` meets its contract: what is written so far, then the points that are left, is the whole;
+-- the measure is how many are left. Assumes nothing.
 use native.Mathlib.Nat.{add-zero, sub-zero}
 use Prim.Native.Nat.{_+_, _-_, _*_, _≤_}
 use mathlib.Core.Path.{_≡_, refl, sym, ap, _∙_}

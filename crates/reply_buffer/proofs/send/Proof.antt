@@ -1,5 +1,5 @@
--- `reply_buffer::send` meets its contract: a text that fits is copied whole, any other leaves the room as it was. Assumes
--- nothing.
+-- `reply_buffer::send` meets its contract: a text that fits is copied whole, any other leaves the room as it was.
+-- Assumes nothing.
 use lib.ListN.{length-take}
 use native.Mathlib.Omega.{arith}
 use Rattle.format.specs.Parts.{bytesOf}

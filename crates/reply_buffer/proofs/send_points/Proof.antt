@@ -1,6 +1,5 @@
--- `reply_buffer::send_points` meets its contract: points that fit are written from the slot of their place on, any others
--- leave
--- the room as it was. Assumes nothing.
+-- `reply_buffer::send_points` meets its contract: points that fit are written from the slot of their place on, any
+-- others leave the room as it was. Assumes nothing.
 use native.Mathlib.Omega.{arith}
 use Rattle.reply_buffer.specs.Buffer.{pointBytes}
 use Rattle.reply_buffer.proofs.Over.{pointBytes-length}

@@ -1,4 +1,5 @@
--- `reply_buffer::text_length` meets its contract: all bytes where the length is past them, else the length. Assumes nothing.
+-- `reply_buffer::text_length` meets its contract: all bytes where the length is past them, else the length. Assumes
+-- nothing.
 use mathlib.Core.Path.{sym, ap}
 use native.Mathlib.Omega.{arith}
 use lib.ListN.{length}

@@ -7,7 +7,7 @@ use Rattle.script.specs.Check.{checkOf}
 use Rattle.script.proofs.check.Statement.{statement}
 use Rattle.script.proofs.check.Tie as tie
 
--- a verdict, and the same in document 01's numbers
+-- a verdict, and the same in numbers
 in-numbers : {v w : Verdict} → v ≡ w → (v ≡ w) × (verdictNumbers v ≡ verdictNumbers w)
 in-numbers e = (e, ap verdictNumbers e)
 
