@@ -16,7 +16,7 @@ use Rattle.settings.specs.Valid.{every}
 use Rattle.settings.proofs.Every.{every-at}
 use Rattle.settings.proofs.Values.{next-is}
 use Rattle.demand2.specs.Demand2.{atEntry, Address, plainly, channelled, IsSetting, alone, channel, pair}
-use Rattle.demand2.specs.Demand2.{EveryEntry}
+use Rattle.demand2.specs.Entries.{EveryEntry}
 
 -- a meaning's entries, over all channels
 abbrev within : ℕ → ℕ → ℕ → Bool

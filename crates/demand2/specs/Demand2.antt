@@ -9,7 +9,7 @@
 -- - only the first command of a line is done, the later ones just counted: by Lines.antt (§2.6);
 --   line/must-fail/later_commands_acknowledged,
 -- - SPTS? replies some number: by Points.antt (§7.9); reply/must-fail/points_invented.
-use Prim.Native.Nat.{ℕ, _+_, _-_, _*_, _<_, _≤_}
+use Prim.Native.Nat.{ℕ, _+_, _-_, _*_, _≤_}
 use mathlib.Core.Path.{_≡_}
 use mathlib.Core.Bool.{true}
 use mathlib.Core.List.{List, [], _∷_, _++_, map, List·Memᴰ}
@@ -19,7 +19,7 @@ use Rattle.format.specs.Text.{plain}
 use Rattle.mnemonic.specs.Names.{meaningOf}
 use Rattle.mnemonic.specs.declared.Register.{Register}
 use Rattle.mnemonic.specs.declared.Meaning.the-variants.{Setting, Channel, ChannelPair, Enable}
-use Rattle.settings.specs.Table.{entries, fmod, freq, harm, oflt, send, nextEntry, valueOf}
+use Rattle.settings.specs.Table.{fmod, freq, harm, oflt, send, nextEntry, valueOf}
 use Rattle.settings.specs.Frequency.{isInternal}
 use Rattle.storage.specs.Storage.{isReset}
 use Rattle.status.specs.Status.{enableOf}
@@ -78,10 +78,6 @@ pub data IsSetting : Address → Type 0 where
   -- §10.3: an enable
   enable : (name : List ℕ) (which : Register) → meaningOf name ≡ Enable which →
       IsSetting (plainly name (atEnable which))
-
--- §5.1: no entry of the table is left out
-abbrev pub EveryEntry : Type 0
-EveryEntry = (entry : ℕ) → entry < entries → (a : Address) × IsSetting a × List·Memᴰ (atEntry entry) (a .holds)
 
 -- ---- values and their texts
 

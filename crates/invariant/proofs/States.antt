@@ -13,7 +13,7 @@ use Rattle.line.specs.Perform.{Effect, storageStepBy, doneBy, commandOf}
 use Rattle.line.specs.Line.{Line, waits, afterOf, afterCommand, runAll, startLine, lineOf}
 use Rattle.line_text.specs.Texts.{textsOf}
 use Rattle.event.proofs.Preserved.{event-stays, event-installation, event-first, event-second, stored-length}
-use Rattle.invariant.specs.StaysValid.{StatePreserved, StatesStay}
+use Rattle.invariant.specs.States.{StatePreserved, StatesStay}
 use Rattle.invariant.proofs.Storable.{parsed-storable}
 use Rattle.invariant.proofs.Change.{after-stays, marked-stays}
 use Rattle.invariant.proofs.Command.{command-by}

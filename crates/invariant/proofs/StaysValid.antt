@@ -32,7 +32,8 @@ use Rattle.lockin.specs.Start.{refusedStart, startCall}
 use Rattle.reply_buffer.specs.After.{After}
 use Rattle.lockin.specs.Calls.{withQueue, guarded, refusedWhole, lineEnd, wholeLine, lineCall, receivedCall, byteReceived}
 use Rattle.lockin.specs.Calls.{byteCall, eventCall}
-use Rattle.invariant.specs.StaysValid.{StatePreserved, ModulePreserved, Reachable, byStart, byLine, byByte, byEvent, StaysValid}
+use Rattle.invariant.specs.States.{StatePreserved}
+use Rattle.invariant.specs.StaysValid.{ModulePreserved, Reachable, byStart, byLine, byByte, byEvent, StaysValid}
 use Rattle.invariant.proofs.Change.{marked-stays}
 use Rattle.invariant.proofs.States.{states-stay}
 

@@ -5,41 +5,12 @@ use mathlib.Core.Path.{_≡_}
 use mathlib.Core.List.{List}
 use lib.ListN.{length}
 use Rattle.outcome.specs.declared.Outcome.the-variants.{Done}
-use Rattle.command.specs.Parsed.{parsedOf}
-use Rattle.state.specs.State.{startState}
-use Rattle.state.specs.Valid.{installationValid, validState}
-use Rattle.state.specs.declared.Installation.{Installation}
-use Rattle.state.specs.declared.State.{State}
-use Rattle.line.specs.Perform.{commandOf}
-use Rattle.line.specs.Line.{lineOf}
-use Rattle.event.specs.Event.{eventOf}
 use Rattle.event.specs.declared.Event.{Event}
 use Rattle.queue.specs.Queue.{lineLimit}
 use Rattle.module.specs.Module.{validModule, guardOf}
 use Rattle.module.specs.declared.Module.{Module}
 use Rattle.lockin.specs.Start.{startCall}
 use Rattle.lockin.specs.Calls.{lineCall, byteCall, eventCall}
-
--- §12.11: from a state and its traces to others: a valid state stays valid, what is fixed at start stays, and each
--- trace keeps its length
-pub record StatePreserved (before after : State) (one two first second : List ℕ) : Type 0 where
-  pub valid : validState before ≡ true → validState after ≡ true
-  pub installation : after .installation ≡ before .installation
-  pub first-length : length first ≡ length one
-  pub second-length : length second ≡ length two
-
--- §12.11: a fresh state is valid, and every command, every line and every event leads from a valid state to a valid one
-pub record StatesStay : Type 0 where
-  pub start : (u : Installation) → installationValid u ≡ true → validState (startState u) ≡ true
-  pub command : (room : ℕ) (waiting : Bool) (text : List ℕ) (s : State) (one two : List ℕ) →
-      let e = commandOf room waiting (parsedOf text) s one two in
-      StatePreserved s (e .after) one two (e .one) (e .two)
-  pub line : (room : ℕ) (bytes : List ℕ) (s : State) (one two : List ℕ) →
-      let l = lineOf room bytes s one two in
-      StatePreserved s (l .after) one two (l .one) (l .two)
-  pub event : (event : Event) (s : State) (one two : List ℕ) →
-      let e = eventOf event s one two in
-      StatePreserved s (e .after) one two (e .one) (e .two)
 
 -- §1.4: from a module and its traces to others: a valid module stays valid, and where neither 11 (the state, §12.11)
 -- nor 9 (the traces, §12.9) refuses a call, neither refuses the next one; the queue's bytes stay as many

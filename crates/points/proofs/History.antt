@@ -45,7 +45,7 @@ use Rattle.event.specs.Event.{measuredBy, bitsRaised, sampledIn, eventOf}
 use Rattle.event.specs.declared.Event.{Event}
 use Rattle.event.specs.declared.Event.the-variants as event
 use Rattle.state.proofs.Sound.{sound}
-use Rattle.invariant.specs.StaysValid.{StatePreserved}
+use Rattle.invariant.specs.States.{StatePreserved}
 use Rattle.points.specs.Points.{History, Holds, afterTick, afterTrigger, historyAfterEvent, afterAction, afterKind}
 use Rattle.points.specs.Points.{afterText, afterTexts}
 use Rattle.points.specs.Points as points

@@ -32,7 +32,7 @@ use Rattle.event.specs.declared.Event.the-variants as event
 use Rattle.module.specs.Module.{guardOf}
 use Rattle.module.specs.declared.Module.{Module}
 use Rattle.lockin.specs.Calls.{withQueue, guarded, lineRan, lineCall, eventCall}
-use Rattle.points.specs.Points.{DoesAs, TrigIsTrigger}
+use Rattle.points.specs.Trigger.{DoesAs, TrigIsTrigger}
 use Rattle.invariant.proofs.OneCommand.{Says, said-call}
 
 says-trig : Says (bytes "TRIG") (Act Trigger)

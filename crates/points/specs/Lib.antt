@@ -1,2 +1,3 @@
--- The points stored, over every call: §7.3 and §7.9.
+-- The points stored, over every call (§7.3, §7.9); TRIG and the trigger event (§7.6).
 pub mod Points
+pub mod Trigger

@@ -11,7 +11,6 @@ use Rattle.split.specs.Ascii.{bytes}
 use Rattle.line_text.specs.Texts.{textsOf}
 use Rattle.format.specs.Text.{plain}
 use Rattle.point.specs.Bytes.{littleEndian}
-use Rattle.outcome.specs.Answer.{reportOf}
 use Rattle.outcome.specs.declared.Refusal.the-variants.{NotAllowed}
 use Rattle.outcome.specs.declared.Answer.the-variants as answer
 use Rattle.outcome.specs.declared.Outcome.{Outcome}
@@ -34,9 +33,7 @@ use Rattle.state.specs.declared.Pair.{Pair}
 use Rattle.state.specs.declared.State.{State}
 use Rattle.reply_buffer.specs.Buffer.{formed}
 use Rattle.reply.specs.Text.{terminatorOf}
-use Rattle.line.specs.Perform.{commandOf}
 use Rattle.line.specs.Line.{Line, startLine, afterCommand}
-use Rattle.event.specs.Event.{eventOf}
 use Rattle.event.specs.declared.Event.{Event}
 use Rattle.event.specs.declared.Event.the-variants as event
 use Rattle.queue.specs.Queue.{lineLimit, waitingBytes, receivedOf}
@@ -46,7 +43,7 @@ use Rattle.queue.specs.declared.LineEnd.the-variants as ending
 use Rattle.lockin.specs.Start.{startCall}
 use Rattle.module.specs.Module.{guardOf}
 use Rattle.module.specs.declared.Module.{Module}
-use Rattle.lockin.specs.Calls.{Call, lineCall, byteCall, EventCall, eventCall}
+use Rattle.lockin.specs.Calls.{lineCall, byteCall, eventCall}
 use Rattle.demand2.specs.Demand2.{joined, answered}
 
 -- ---- what a call does to the history
@@ -256,23 +253,3 @@ pub record PointsReplied (history : History) (m : Module) (one two : List ℕ) :
 abbrev pub RepliesPoints : Type 0
 RepliesPoints =
     (history : History) (m : Module) (one two : List ℕ) → Holding history m one two → PointsReplied history m one two
-
--- ---- TRIG and the trigger event
-
--- §7.6: a call by a line leaves what a call by an event leaves, and writes nothing
-pub record DoesAs (c : Call) (e : EventCall) : Type 0 where
-  pub after : c .after ≡ e .after
-  pub first : c .one ≡ e .one
-  pub second : c .two ≡ e .two
-  pub reply : c .out ≡ []
-
--- §7.6: TRIG anywhere in a line does what the event does; as a line by itself it leaves what the event leaves in every
--- module and with any traces, and both are answered 0 where neither 11 nor 9 refuses the call (§1.4)
-pub record TrigIsTrigger : Type 0 where
-  pub command : (room : ℕ) (waiting : Bool) (s : State) (one two : List ℕ) →
-      commandOf room waiting (parsedOf (bytes "TRIG")) s one two ≡ eventOf event.Trigger s one two
-  pub line : (room : ℕ) (m : Module) (one two : List ℕ) →
-      DoesAs (lineCall room (bytes "TRIG") m one two) (eventCall event.Trigger m one two)
-  pub answers : (room : ℕ) (m : Module) (one two : List ℕ) → guardOf m (length one) (length two) ≡ Done →
-      (lineCall room (bytes "TRIG") m one two .report ≡ reportOf answer.Passed 0)
-      × (eventCall event.Trigger m one two .report ≡ Done)
