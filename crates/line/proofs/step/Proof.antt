@@ -11,7 +11,8 @@ after-requires : tie.Need-after-requires
 after-requires c κs =
     let taken = c .before .before .before .before .before .before in
     let t = taken .take-command in
-    let start = taken .before .before .before .before .before .before .before .before .before in
+    let lent = taken .before .before .before .before in
+    let start = lent .before .before .before .before .before in
     let a = start .args in (
       part-fits (a .reply .now) (a .p .at) (start .pre .0) (t .last .1 .1 .1 .1 .1 .0) (t .result .written)
           (t .ensures .1) (t .kept .1 .1 .1 .1 .1 .0) (start .good .1 .1 .1 .1 .0 .1),
@@ -22,7 +23,8 @@ returns : tie.Need-returns
 returns c =
     let taken = c .before .before .before .before .before .before .before in
     let t = taken .take-command in
-    let start = taken .before .before .before .before .before .before .before .before .before in
+    let lent = taken .before .before .before .before in
+    let start = lent .before .before .before .before .before in
     let a = start .args in
     let new = t .last .1 .1 .1 .1 .1 .0 in
     let g : c .after .result .at ≡ a .p .at + t .result .written = ap (λ r. r .at) (c .after .ensures) in (
