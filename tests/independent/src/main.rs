@@ -1,4 +1,4 @@
-// The independent program: it answers operations and scripts, and makes them.
+//! The independent program: it answers operations and scripts, and makes them.
 
 mod argument;
 mod bench;

@@ -1,4 +1,4 @@
-// Random operations, scripts, courses and states from a seed.
+//! Random operations, scripts, courses and states from a seed.
 
 mod alterations;
 pub mod bench;

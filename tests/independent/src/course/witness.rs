@@ -1,7 +1,7 @@
-// Witnesses of refusals by 3: the operations of a course that refuses the command named.
-//
-// What a program says to an input of the check program is a verdict line, and after a refusal by 3 a
-// start at serial 0 on GPIB, and then each line of the script up to the one named, events before it.
+//! Witnesses of refusals by 3: the operations of a course that refuses the command named.
+//!
+//! What a program says to an input of the check program is a verdict line, and after a refusal by 3 a
+//! start at serial 0 on GPIB, and then each line of the script up to the one named, events before it.
 
 use super::search::{self, PORT, SERIAL};
 use crate::ops::compare::lines;

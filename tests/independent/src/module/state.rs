@@ -1,4 +1,4 @@
-// The state as a caller hands it over: any numbers, those that refusal 11 tests among them.
+//! The state as a caller hands it over: any numbers, those that refusal 11 tests among them.
 
 use super::bytes::Input;
 use super::events::ERR_RAISABLE;

@@ -1,4 +1,4 @@
-// Which calls a stream of operations makes meet refusal 11, and by which altered field.
+//! Which calls a stream of operations makes meet refusal 11, and by which altered field.
 
 use super::field::Field;
 use super::Operation;

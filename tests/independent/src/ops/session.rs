@@ -1,4 +1,4 @@
-// A session of the ops protocol: one module, and the answer to each operation.
+//! A session of the ops protocol: one module, and the answer to each operation.
 
 use super::Operation;
 use crate::hex;

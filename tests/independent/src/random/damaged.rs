@@ -1,4 +1,4 @@
-// Random lines that are no operations, or nearly none.
+//! Random lines that are no operations, or nearly none.
 
 use super::generator::Generator;
 use super::lines;

@@ -1,4 +1,4 @@
-// A generator of random numbers (splitmix64).
+//! A generator of random numbers (splitmix64).
 
 pub struct Generator {
     state: u64,

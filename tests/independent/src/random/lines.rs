@@ -1,4 +1,4 @@
-// Random lines: valid, nearly valid and damaged commands.
+//! Random lines: valid, nearly valid and damaged commands.
 
 use super::generator::Generator;
 use super::spelling;

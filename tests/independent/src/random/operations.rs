@@ -1,4 +1,4 @@
-// Random operations of the ops protocol, chosen beside a module that they are performed on.
+//! Random operations of the ops protocol, chosen beside a module that they are performed on.
 
 use super::generator::Generator;
 use super::{alterations, near, scripts};

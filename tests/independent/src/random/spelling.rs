@@ -1,4 +1,4 @@
-// Random number texts.
+//! Random number texts.
 
 use super::generator::Generator;
 use crate::argument::{Argument, Rule};

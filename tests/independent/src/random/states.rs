@@ -1,4 +1,4 @@
-// Random allowed states, with traces of any words.
+//! Random allowed states, with traces of any words.
 
 use super::generator::Generator;
 use super::{courses, near, settings};
