@@ -7,17 +7,20 @@
 //!   field or twice in a row, a tab or a CR makes it no operation, and so does a field too few or too
 //!   many. Words are in small letters.
 //! - A number is one or more of the digits 0 to 9 and nothing else; any number of leading zeros is
-//!   allowed. Its value is at most
-//!       SERIAL, PORT, N, I, CAP   4294967295 (PORT above 1 is an unknown port)
-//!       LEN1, LEN2                16384
-//!       ROOM                      131072
-//!       LIA, ERR                  255
-//!       MARK                      1
-//!       T                         2, and at least 1
-//!       VALUE                     what the field that NAME names holds; of a setting with a minus too
+//!   allowed. Its value is at most what the table below says.
 //! - HEX is an even number, at least 2, of the digits 0 to 9 and a to f, or `-` for no bytes.
 //! - HH has exactly 2 such digits, W exactly 8.
 //! - NAME is a field's name, of a list with `.` and one part's place, and VALUE as `dump` writes it.
+//!
+//! | Number | At most |
+//! |---|---|
+//! | SERIAL, PORT, N, I, CAP | 4294967295 (PORT above 1 is an unknown port) |
+//! | LEN1, LEN2 | 16384 |
+//! | ROOM | 131072 |
+//! | LIA, ERR | 255 |
+//! | MARK | 1 |
+//! | T | 2, and at least 1 |
+//! | VALUE | what the field that NAME names holds; of a setting with a minus too |
 
 pub mod compare;
 pub mod dump;

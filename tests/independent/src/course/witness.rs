@@ -110,8 +110,8 @@ mod tests {
 
     /// The answers to all that follows the verdict.
     fn answers(said: &str) -> String {
-        let mut session = Session::new();
-        said.lines().skip(1).filter_map(|text| session.answer(text.as_bytes())).map(|answer| answer + "\n").collect()
+        let operations = said.split_once('\n').map_or("", |(_, operations)| operations);
+        Session::new().answers(operations.as_bytes())
     }
 
     #[test]

@@ -71,7 +71,7 @@ impl State {
         let Input { queue, dropping } = &self.input;
         queue.len() <= MOST_LINE_BYTES
             && queue.iter().all(|&byte| port.role(byte, false) != Role::End)
-            && !(*dropping && !queue.is_empty())
+            && (!*dropping || queue.is_empty())
     }
 }
 

@@ -9,6 +9,7 @@
 //!   lies among these, for it is in force. So it is always one value or a range.
 //! - the points held, for each phase of storage. Each command and event takes one phase with its
 //!   points to another, whatever the external frequency is.
+//!
 //! The time constant differs from course to course too, but no refusal depends on it, nor on whatever
 //! else a state has.
 
