@@ -1,4 +1,4 @@
-// Arguments: their ranges, and how an exact value becomes the whole number of units that is taken.
+//! Arguments: their ranges, and how an exact value becomes the whole number of units that is taken.
 
 use crate::frequency;
 use crate::number::Number;

@@ -1,4 +1,4 @@
-// The bench program: bytes in, replies out.
+//! The bench program: bytes in, replies out.
 
 use crate::module::Module;
 use std::io::{self, Read, Write};

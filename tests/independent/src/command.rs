@@ -1,4 +1,4 @@
-// Commands: every lawful form, and how a line is read into them.
+//! Commands: every lawful form, and how a line is read into them.
 
 use crate::argument::Argument;
 use crate::number::Number;

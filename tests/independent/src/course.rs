@@ -1,4 +1,4 @@
-// Courses of a script: an allowed state, events before each line, and what the lines answer.
+//! Courses of a script: an allowed state, events before each line, and what the lines answer.
 
 pub mod confirm;
 pub mod search;

@@ -1,4 +1,4 @@
-// Decimal values to be spelled as number texts.
+//! Decimal values to be spelled as number texts.
 
 /// A value: `mantissa` times ten to the power minus `places`.
 #[derive(Clone, Copy, Debug, PartialEq, Eq)]

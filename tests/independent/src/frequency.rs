@@ -1,4 +1,4 @@
-// Frequencies in units of 0.1 mHz: the steps of FREQ, the 102 kHz limit and the 200 Hz crossing.
+//! Frequencies in units of 0.1 mHz: the steps of FREQ, the 102 kHz limit and the 200 Hz crossing.
 
 use crate::number::Number;
 

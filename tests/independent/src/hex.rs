@@ -1,4 +1,4 @@
-// Bytes as lower-case hex, and as printable text.
+//! Bytes as lower-case hex, and as printable text.
 
 /// Two hex digits for each byte.
 pub fn encode(bytes: &[u8]) -> String {

@@ -1,4 +1,4 @@
-// The module: its state with the two traces, and how it starts.
+//! The module: its state with the two traces, and how it starts.
 
 pub mod bytes;
 pub mod events;

@@ -1,4 +1,4 @@
-// Natural numbers of any size, kept as their decimal digits.
+//! Natural numbers of any size, kept as their decimal digits.
 
 use std::cmp::Ordering;
 

@@ -1,4 +1,4 @@
-// Number texts and the exact values that they stand for.
+//! Number texts and the exact values that they stand for.
 
 use crate::natural::Natural;
 use std::cmp::Ordering;

@@ -1,23 +1,26 @@
-// The ops protocol: its operations, as texts and as values.
-//
-// What is an operation, to the byte (everything else is answered `?` and does nothing):
-// - A line ends in LF; the last one may lack it. A line of no bytes is passed over without an answer.
-// - One operation has at most 131072 bytes, its LF not counted.
-// - It is a word and its fields, divided by single spaces: a space before the word, after the last
-//   field or twice in a row, a tab or a CR makes it no operation, and so does a field too few or too
-//   many. Words are in small letters.
-// - A number is one or more of the digits 0 to 9 and nothing else; any number of leading zeros is
-//   allowed. Its value is at most
-//       SERIAL, PORT, N, I, CAP   4294967295 (PORT above 1 is an unknown port)
-//       LEN1, LEN2                16384
-//       ROOM                      131072
-//       LIA, ERR                  255
-//       MARK                      1
-//       T                         2, and at least 1
-//       VALUE                     what the field that NAME names holds; of a setting with a minus too
-// - HEX is an even number, at least 2, of the digits 0 to 9 and a to f, or `-` for no bytes.
-// - HH has exactly 2 such digits, W exactly 8.
-// - NAME is a field's name, of a list with `.` and one part's place, and VALUE as `dump` writes it.
+//! The ops protocol: its operations, as texts and as values.
+//!
+//! What is an operation, to the byte (everything else is answered `?` and does nothing):
+//! - A line ends in LF; the last one may lack it. A line of no bytes is passed over without an answer.
+//! - One operation has at most 131072 bytes, its LF not counted.
+//! - It is a word and its fields, divided by single spaces: a space before the word, after the last
+//!   field or twice in a row, a tab or a CR makes it no operation, and so does a field too few or too
+//!   many. Words are in small letters.
+//! - A number is one or more of the digits 0 to 9 and nothing else; any number of leading zeros is
+//!   allowed. Its value is at most what the table below says.
+//! - HEX is an even number, at least 2, of the digits 0 to 9 and a to f, or `-` for no bytes.
+//! - HH has exactly 2 such digits, W exactly 8.
+//! - NAME is a field's name, of a list with `.` and one part's place, and VALUE as `dump` writes it.
+//!
+//! | Number | At most |
+//! |---|---|
+//! | SERIAL, PORT, N, I, CAP | 4294967295 (PORT above 1 is an unknown port) |
+//! | LEN1, LEN2 | 16384 |
+//! | ROOM | 131072 |
+//! | LIA, ERR | 255 |
+//! | MARK | 1 |
+//! | T | 2, and at least 1 |
+//! | VALUE | what the field that NAME names holds; of a setting with a minus too |
 
 pub mod compare;
 pub mod dump;

@@ -1,4 +1,4 @@
-// Trace points: words of a signed m and an exponent e, of value m times 2 to the power (e - 124).
+//! Trace points: words of a signed m and an exponent e, of value m times 2 to the power (e - 124).
 
 /// The largest exponent of a legal point.
 pub const MOST_EXPONENT: u8 = 236;

@@ -1,4 +1,4 @@
-// Refusals, their numbers and the standard event bits that they set.
+//! Refusals, their numbers and the standard event bits that they set.
 
 /// Standard event bits.
 pub const INP: u8 = 1 << 0;

@@ -1,4 +1,4 @@
-// The script check: whether a script is refused in no course of events, and if not, where first.
+//! The script check: whether a script is refused in no course of events, and if not, where first.
 
 mod counts;
 mod courses;

@@ -1,4 +1,4 @@
-// The settings: their table, the values that a state may hold, and their replies.
+//! The settings: their table, the values that a state may hold, and their replies.
 
 use crate::argument::{Argument, Rule};
 use crate::frequency::{self, Reference};

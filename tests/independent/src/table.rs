@@ -1,5 +1,5 @@
-// The table of worked values, as operations: lines, values and points, each on a module of its own; and
-// the state altered field by field.
+//! The table of worked values, as operations: lines, values and points, each on a module of its own; and
+//! the state altered field by field.
 
 pub mod altered;
 mod lines;

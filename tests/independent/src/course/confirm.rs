@@ -1,4 +1,4 @@
-// Confirming the check's verdicts: by the text where it decides, else by courses of the module.
+//! Confirming the check's verdicts: by the text where it decides, else by courses of the module.
 
 use super::{search, Course};
 use crate::command::MOST_LINE_BYTES;

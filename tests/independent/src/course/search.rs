@@ -1,7 +1,7 @@
-// A search through the courses of a fresh module for one that refuses a certain command.
-//
-// Before each line there falls nothing, the highest frequency that can be measured, a trigger, or
-// both; of the courses that come to the same settings, phase and points held, one goes on.
+//! A search through the courses of a fresh module for one that refuses a certain command.
+//!
+//! Before each line there falls nothing, the highest frequency that can be measured, a trigger, or
+//! both; of the courses that come to the same settings, phase and points held, one goes on.
 
 use super::refusal_of;
 use crate::frequency::LIMIT;

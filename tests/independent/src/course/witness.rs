@@ -1,7 +1,7 @@
-// Witnesses of refusals by 3: the operations of a course that refuses the command named.
-//
-// What a program says to an input of the check program is a verdict line, and after a refusal by 3 a
-// start at serial 0 on GPIB, and then each line of the script up to the one named, events before it.
+//! Witnesses of refusals by 3: the operations of a course that refuses the command named.
+//!
+//! What a program says to an input of the check program is a verdict line, and after a refusal by 3 a
+//! start at serial 0 on GPIB, and then each line of the script up to the one named, events before it.
 
 use super::search::{self, PORT, SERIAL};
 use crate::ops::compare::lines;
@@ -110,8 +110,8 @@ mod tests {
 
     /// The answers to all that follows the verdict.
     fn answers(said: &str) -> String {
-        let mut session = Session::new();
-        said.lines().skip(1).filter_map(|text| session.answer(text.as_bytes())).map(|answer| answer + "\n").collect()
+        let operations = said.split_once('\n').map_or("", |(_, operations)| operations);
+        Session::new().answers(operations.as_bytes())
     }
 
     #[test]

@@ -1,4 +1,4 @@
-// Bytes that come in one by one: the queue, the line's end, and lines that are too long.
+//! Bytes that come in one by one: the queue, the line's end, and lines that are too long.
 
 use super::line::Answer;
 use super::port::Role;

@@ -1,4 +1,4 @@
-// Events: a new latest pair, ticks, triggers, measured frequencies, raised bits, other writers.
+//! Events: a new latest pair, ticks, triggers, measured frequencies, raised bits, other writers.
 
 use super::perform::TRIGGERED_RATE;
 use super::status::LIA_NOT_TAKEN;

@@ -1,4 +1,4 @@
-// A line handed over whole: its commands in turn, its reply and its answer.
+//! A line handed over whole: its commands in turn, its reply and its answer.
 
 use super::Module;
 use crate::command::{self, Command, Reading, MOST_LINE_BYTES};

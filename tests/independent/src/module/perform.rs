@@ -1,4 +1,4 @@
-// Commands that write no reply: settings, storage, enables, resets.
+//! Commands that write no reply: settings, storage, enables, resets.
 
 use super::status::LIA_TRIGGERED;
 use super::storage::{Phase, Storage};

@@ -1,4 +1,4 @@
-// The two ports: what ends a line on each, and what ends a reply.
+//! The two ports: what ends a line on each, and what ends a reply.
 
 #[derive(Clone, Copy, Debug, PartialEq, Eq)]
 pub enum Port {

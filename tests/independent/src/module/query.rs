@@ -1,4 +1,4 @@
-// Replies: what a query writes, and what its reading clears.
+//! Replies: what a query writes, and what its reading clears.
 
 use super::Module;
 use crate::command::Command;

@@ -1,4 +1,4 @@
-// The state as a caller hands it over: any numbers, those that refusal 11 tests among them.
+//! The state as a caller hands it over: any numbers, those that refusal 11 tests among them.
 
 use super::bytes::Input;
 use super::events::ERR_RAISABLE;
@@ -71,7 +71,7 @@ impl State {
         let Input { queue, dropping } = &self.input;
         queue.len() <= MOST_LINE_BYTES
             && queue.iter().all(|&byte| port.role(byte, false) != Role::End)
-            && !(*dropping && !queue.is_empty())
+            && (!*dropping || queue.is_empty())
     }
 }
 

@@ -1,4 +1,4 @@
-// Status: the event registers with their enables, service request enables, and the status byte.
+//! Status: the event registers with their enables, service request enables, and the status byte.
 
 use crate::module::storage::Phase;
 

@@ -1,5 +1,5 @@
-// Storage of points. What is kept is the number of points since the last emptying; the points held,
-// the slots and whether storage is done follow from it.
+//! Storage of points. What is kept is the number of points since the last emptying; the points held,
+//! the slots and whether storage is done follow from it.
 
 #[derive(Clone, Copy, Debug, PartialEq, Eq, Hash)]
 pub enum Phase {

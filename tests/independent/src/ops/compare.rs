@@ -1,4 +1,4 @@
-// Comparing another program's answers to operations with the ones given here.
+//! Comparing another program's answers to operations with the ones given here.
 
 use super::{Operation, Session};
 use crate::hex;

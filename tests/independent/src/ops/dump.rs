@@ -1,4 +1,4 @@
-// The state and the traces as text.
+//! The state and the traces as text.
 
 use super::field;
 use crate::module::state::State;

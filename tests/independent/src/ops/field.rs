@@ -1,4 +1,4 @@
-// The fields of the state, as `dump` writes them and `alter` names and reads them.
+//! The fields of the state, as `dump` writes them and `alter` names and reads them.
 
 use crate::hex;
 use crate::module::state::State;

@@ -1,4 +1,4 @@
-// Which calls a stream of operations makes meet refusal 11, and by which altered field.
+//! Which calls a stream of operations makes meet refusal 11, and by which altered field.
 
 use super::field::Field;
 use super::Operation;
@@ -6,7 +6,7 @@ use crate::refusal::Refusal;
 use std::collections::BTreeMap;
 
 /// The word for the operations that alter the state.
-const ALTER: &str = "alter";
+pub const ALTER: &str = "alter";
 
 /// How often each field was altered, under `alter`; and under each call how often 11 refused it, by the
 /// field that was altered last.

@@ -1,5 +1,6 @@
-// A session of the ops protocol: one module, and the answer to each operation.
+//! A session of the ops protocol: one module, and the answer to each operation.
 
+use super::compare::lines;
 use super::Operation;
 use crate::hex;
 use crate::module::line::Answer;
@@ -16,6 +17,7 @@ const UNTOUCHED: u8 = 0xaa;
 pub const NO_OPERATION: &str = "?";
 const DONE: &str = "K";
 
+/// One module under operations.
 pub struct Session {
     /// The module that the last call left, with its traces.
     pub module: Module,
@@ -23,11 +25,20 @@ pub struct Session {
     altered: Option<State>,
 }
 
-impl Session {
-    pub fn new() -> Session {
+impl Default for Session {
+    /// Before the first start: the module of a refused start.
+    fn default() -> Session {
         Session::of(Module::refused())
     }
+}
 
+impl Session {
+    /// A session before its first start.
+    pub fn new() -> Session {
+        Session::default()
+    }
+
+    /// A session of a module that has come to where it is.
     pub fn of(module: Module) -> Session {
         Session { module, altered: None }
     }
@@ -41,6 +52,12 @@ impl Session {
             Some(operation) => self.perform(&operation),
             None => NO_OPERATION.to_string(),
         })
+    }
+
+    /// The answers to a stream of operations, a line each.
+    pub fn answers(&mut self, stream: &[u8]) -> String {
+        let answers = lines(stream).into_iter().filter_map(|text| self.answer(text));
+        answers.map(|answer| answer + "\n").collect()
     }
 
     /// The state that the next call is given.

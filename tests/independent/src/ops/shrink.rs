@@ -1,4 +1,4 @@
-// Making a stream of operations small on which another program answers differently.
+//! Making a stream of operations small on which another program answers differently.
 
 use super::compare::{first_difference, lines, Difference};
 use super::Operation;

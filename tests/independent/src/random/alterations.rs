@@ -1,5 +1,5 @@
-// Random alterations of the state: a field or several that decide together, to values that a state may
-// hold and to values that it may not.
+//! Random alterations of the state: a field or several that decide together, to values that a state may
+//! hold and to values that it may not.
 
 use super::generator::Generator;
 use super::{near, point, settings, states};

@@ -1,4 +1,4 @@
-// Random input of the bench program.
+//! Random input of the bench program.
 
 use super::generator::Generator;
 use super::{lines, near};

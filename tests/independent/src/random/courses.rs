@@ -1,4 +1,4 @@
-// Random courses: an allowed state, and before each line events that are drawn as the course goes on.
+//! Random courses: an allowed state, and before each line events that are drawn as the course goes on.
 
 use super::generator::Generator;
 use super::{operations, states};

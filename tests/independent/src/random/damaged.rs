@@ -1,4 +1,4 @@
-// Random lines that are no operations, or nearly none.
+//! Random lines that are no operations, or nearly none.
 
 use super::generator::Generator;
 use super::lines;
@@ -61,7 +61,7 @@ impl Iterator for Lines {
         Some(match generator.below(200) {
             0..=59 => {
                 let length = generator.below(40);
-                without_line_ends((0..length).map(|_| generator.next() as u8).collect())
+                without_line_ends((0..length).map(|_| generator.bits() as u8).collect())
             }
             60 => at_most_bytes(generator),
             _ => operation(generator, &text),

@@ -1,4 +1,4 @@
-// Random scripts that are lawful nearly to their end, near the rules that a state decides.
+//! Random scripts that are lawful nearly to their end, near the rules that a state decides.
 
 use super::generator::Generator;
 use super::{lines, near, scripts};

@@ -1,16 +1,18 @@
-// A generator of random numbers (splitmix64).
+//! A generator of random numbers (splitmix64).
 
+/// Where a stream of random numbers has come to.
 pub struct Generator {
     state: u64,
 }
 
 impl Generator {
+    /// The stream of a seed.
     pub fn new(seed: u64) -> Generator {
         Generator { state: seed }
     }
 
     /// The next 64 random bits.
-    pub fn next(&mut self) -> u64 {
+    pub fn bits(&mut self) -> u64 {
         self.state = self.state.wrapping_add(0x9e37_79b9_7f4a_7c15);
         let mut bits = self.state;
         bits = (bits ^ (bits >> 30)).wrapping_mul(0xbf58_476d_1ce4_e5b9);
@@ -20,12 +22,12 @@ impl Generator {
 
     /// A number from 0 to `end - 1`.
     pub fn below(&mut self, end: usize) -> usize {
-        (self.next() % end as u64) as usize
+        (self.bits() % end as u64) as usize
     }
 
     /// A number from `low` to `high`.
     pub fn between(&mut self, low: i64, high: i64) -> i64 {
-        low + (self.next() % (high - low + 1) as u64) as i64
+        low + (self.bits() % (high - low + 1) as u64) as i64
     }
 
     /// A number from 0 to `high`, of any number of digits with about the same chance.
@@ -35,10 +37,12 @@ impl Generator {
         self.between(0, high.min(end))
     }
 
+    /// True in `percent` cases of a hundred.
     pub fn chance(&mut self, percent: usize) -> bool {
         self.below(100) < percent
     }
 
+    /// One of several.
     pub fn pick<T: Copy>(&mut self, from: &[T]) -> T {
         from[self.below(from.len())]
     }
@@ -51,8 +55,8 @@ mod tests {
     #[test]
     fn known_first_numbers() {
         let mut generator = Generator::new(0);
-        assert_eq!(generator.next(), 0xe220_a839_7b1d_cdaf);
-        assert_eq!(generator.next(), 0x6e78_9e6a_a1b9_65f4);
+        assert_eq!(generator.bits(), 0xe220_a839_7b1d_cdaf);
+        assert_eq!(generator.bits(), 0x6e78_9e6a_a1b9_65f4);
     }
 
     #[test]

@@ -1,4 +1,4 @@
-// Random lines: valid, nearly valid and damaged commands.
+//! Random lines: valid, nearly valid and damaged commands.
 
 use super::generator::Generator;
 use super::spelling;
@@ -40,7 +40,7 @@ pub fn line(generator: &mut Generator) -> Vec<u8> {
 pub fn odd_line(generator: &mut Generator) -> Vec<u8> {
     let length = generator.below(12);
     match generator.below(4) {
-        0 => (0..length).map(|_| generator.next() as u8).collect(),
+        0 => (0..length).map(|_| generator.bits() as u8).collect(),
         1 => (0..length).map(|_| generator.pick(b"; \r,?*")).collect(),
         2 => (0..length).map(|_| generator.pick(BYTES)).collect(),
         _ => {
@@ -130,7 +130,7 @@ pub fn damage(generator: &mut Generator, text: &mut Vec<u8>) {
     let at = generator.below(text.len());
     match generator.below(7) {
         0 => text[at] ^= 1 << generator.below(8),
-        1 => text[at] = generator.next() as u8,
+        1 => text[at] = generator.bits() as u8,
         2 => text[at] = generator.pick(BYTES),
         3 => text.insert(at, generator.pick(BYTES)),
         4 => {

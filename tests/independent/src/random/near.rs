@@ -1,4 +1,4 @@
-// Random commands near what decides in a state: limits, crossings, storage, status.
+//! Random commands near what decides in a state: limits, crossings, storage, status.
 
 use super::generator::Generator;
 use super::lines;

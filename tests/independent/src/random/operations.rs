@@ -1,4 +1,4 @@
-// Random operations of the ops protocol, chosen beside a module that they are performed on.
+//! Random operations of the ops protocol, chosen beside a module that they are performed on.
 
 use super::generator::Generator;
 use super::{alterations, near, scripts};
@@ -114,7 +114,7 @@ fn start(generator: &mut Generator) -> Vec<Operation> {
     };
     let other = if generator.chance(6) { generator.pick(&[0, 1, 2, 16_384]) } else { capacity };
     let serial = generator.pick(&[0, 1, 42, 12_345, 99_999, 99_999, 7, 42, 42, 42, 42, 100_000]);
-    let serial = if generator.chance(1) { generator.next() as u32 } else { serial };
+    let serial = if generator.chance(1) { generator.bits() as u32 } else { serial };
     let port =
         if generator.chance(3) { generator.pick(&[2, 3, 255, 256, u32::MAX]) } else { generator.below(2) as u32 };
     let first_line = generator.pick(FIRST_LINES).as_bytes().to_vec();
@@ -244,7 +244,7 @@ pub fn measured(generator: &mut Generator, session: &Session) -> Operation {
 
 /// Raised bits, legal or not.
 pub fn raise(generator: &mut Generator) -> Operation {
-    let [lia, err] = [generator.next() as u8, generator.next() as u8];
+    let [lia, err] = [generator.bits() as u8, generator.bits() as u8];
     match generator.below(4) {
         0 => Operation::Raise { lia, err },
         1 => Operation::Raise { lia: 1 << generator.below(8), err: 0 },

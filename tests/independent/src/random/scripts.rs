@@ -1,4 +1,4 @@
-// Random scripts for the check, near the rules that a state decides.
+//! Random scripts for the check, near the rules that a state decides.
 
 use super::generator::Generator;
 use super::lines;

@@ -1,4 +1,4 @@
-// Random settings: allowed ones, and values near the ends of what is kept.
+//! Random settings: allowed ones, and values near the ends of what is kept.
 
 use super::generator::Generator;
 use crate::frequency::{FIRST_LONG_TIME_CONSTANT, LEAST, LIMIT, SLOW_LIMIT};

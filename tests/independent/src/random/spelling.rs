@@ -1,4 +1,4 @@
-// Random number texts.
+//! Random number texts.
 
 use super::generator::Generator;
 use crate::argument::{Argument, Rule};
@@ -55,7 +55,7 @@ fn stepped_value(generator: &mut Generator, argument: &Argument) -> Decimal {
         3 | 4 => fine_step / 2,
         5 => fine_step / 2 + 1,
         6 => fine_step / 2 - 1,
-        _ => i128::from(generator.next()) % fine_step,
+        _ => i128::from(generator.bits()) % fine_step,
     };
     value.plus(sign * offset)
 }

@@ -1,4 +1,4 @@
-// Random allowed states, with traces of any words.
+//! Random allowed states, with traces of any words.
 
 use super::generator::Generator;
 use super::{courses, near, settings};
@@ -36,7 +36,7 @@ fn made_up(generator: &mut Generator, capacity: usize) -> Module {
     module.settings = settings::surely_allowed(generator);
     module.storage = storage(generator, capacity, module.is_one_shot());
     for trace in &mut module.traces {
-        trace.fill_with(|| Point { word: generator.next() as u32 });
+        trace.fill_with(|| Point { word: generator.bits() as u32 });
     }
     module.latest = [legal_point(generator), legal_point(generator)];
     module.registers = registers(generator);
@@ -52,13 +52,13 @@ fn storage(generator: &mut Generator, capacity: usize, is_one_shot: bool) -> Sto
 }
 
 fn legal_point(generator: &mut Generator) -> Point {
-    Point::new(generator.next() as i16, generator.between(0, MOST_EXPONENT.into()) as u8)
+    Point::new(generator.bits() as i16, generator.between(0, MOST_EXPONENT.into()) as u8)
 }
 
 fn registers(generator: &mut Generator) -> Registers {
-    let mut register = |bits: u8| Register { events: generator.next() as u8 & bits, enables: generator.next() as u8 };
+    let mut register = |bits: u8| Register { events: generator.bits() as u8 & bits, enables: generator.bits() as u8 };
     let [standard, lia, err] = [STANDARD_BITS, LIA_BITS, ERR_RAISABLE].map(&mut register);
-    Registers { standard, lia, err, service: generator.next() as u8 & SERVICE_BITS }
+    Registers { standard, lia, err, service: generator.bits() as u8 & SERVICE_BITS }
 }
 
 /// Bytes that wait for their line's end, or are dropped up to it.

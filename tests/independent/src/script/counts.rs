@@ -1,4 +1,4 @@
-// Sets of numbers of points, as disjoint ranges in rising order.
+//! Sets of numbers of points, as disjoint ranges in rising order.
 
 /// A set of numbers.
 #[derive(Clone, Debug, Default, PartialEq, Eq)]

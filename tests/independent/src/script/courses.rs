@@ -1,16 +1,17 @@
-// All courses at once: what any course of events can have that decides a refusal.
-//
-// A refusal by 3 is decided by FMOD, FREQ, HARM, the external frequency, the phase of storage and the
-// points held. Only commands change the first three and SRAT, SEND and TSTR, so they are the same in
-// every course that no command was refused in. The rest is kept as sets, each exactly the values that
-// some course has:
-// - the external frequency. After *RST it is one value. Events change it only where FMOD is 0, and
-//   then to each value from the least frequency to the limit divided by the harmonic. The one kept
-//   lies among these, for it is in force. So it is always one value or a range.
-// - the points held, for each phase of storage. Each command and event takes one phase with its
-//   points to another, whatever the external frequency is.
-// The time constant differs from course to course too, but no refusal depends on it, nor on whatever
-// else a state has.
+//! All courses at once: what any course of events can have that decides a refusal.
+//!
+//! A refusal by 3 is decided by FMOD, FREQ, HARM, the external frequency, the phase of storage and the
+//! points held. Only commands change the first three and SRAT, SEND and TSTR, so they are the same in
+//! every course that no command was refused in. The rest is kept as sets, each exactly the values that
+//! some course has:
+//! - the external frequency. After *RST it is one value. Events change it only where FMOD is 0, and
+//!   then to each value from the least frequency to the limit divided by the harmonic. The one kept
+//!   lies among these, for it is in force. So it is always one value or a range.
+//! - the points held, for each phase of storage. Each command and event takes one phase with its
+//!   points to another, whatever the external frequency is.
+//!
+//! The time constant differs from course to course too, but no refusal depends on it, nor on whatever
+//! else a state has.
 
 use super::counts::Counts;
 use crate::command::Command;

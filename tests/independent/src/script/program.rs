@@ -1,4 +1,4 @@
-// The check program: a capacity on line one of its input, then a script; one line of output.
+//! The check program: a capacity on line one of its input, then a script; one line of output.
 
 use super::{check, has_traces, No};
 use crate::module::MOST_CAPACITY;

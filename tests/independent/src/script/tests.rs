@@ -1,4 +1,4 @@
-// Tests of the check: document 01's examples, and a search through courses of the module itself.
+//! Tests of the check: document 01's examples, and a search through courses of the module itself.
 
 use super::*;
 use crate::frequency::{LEAST, LIMIT, SLOW_LIMIT};

@@ -1,5 +1,5 @@
-// The state altered field by field, to values just inside and just outside what a state may hold, from
-// several states; and after each alteration every call.
+//! The state altered field by field, to values just inside and just outside what a state may hold, from
+//! several states; and after each alteration every call.
 
 use super::{alter, line, start};
 use crate::frequency::{HERTZ, LEAST, LIMIT, SLOW_LIMIT};

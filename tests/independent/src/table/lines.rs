@@ -1,4 +1,4 @@
-// Worked lines: document 01's examples, forms, names, spaces and places.
+//! Worked lines: document 01's examples, forms, names, spaces and places.
 
 use crate::command::{names, MOST_LINE_BYTES};
 

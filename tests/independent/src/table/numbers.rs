@@ -1,4 +1,4 @@
-// Worked numbers: ends of ranges, ties at the step, spellings, and texts that are no numbers.
+//! Worked numbers: ends of ranges, ties at the step, spellings, and texts that are no numbers.
 
 use crate::argument::{Argument, Rule};
 use crate::command::{Form, FORMS};

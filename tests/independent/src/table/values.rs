@@ -1,4 +1,4 @@
-// Worked values other than lines: replies, allowed settings, frequencies, crossings, points.
+//! Worked values other than lines: replies, allowed settings, frequencies, crossings, points.
 
 use super::{alter, line, start, with_points};
 use crate::frequency::{HERTZ, LEAST, LIMIT, SLOW_LIMIT};

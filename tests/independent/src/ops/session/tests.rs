@@ -1,4 +1,4 @@
-// Tests of the module through operations, from document 01's examples.
+//! Tests of the module through operations, from document 01's examples.
 
 use super::*;
 

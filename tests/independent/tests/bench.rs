@@ -1,0 +1,66 @@
+//! The bench program: bytes in, replies out. The whole run has a stack of 128 KiB, and the buffers of `bench` take 72
+//! of them, so that one call has less than 64.
+
+mod common;
+
+use common::running::{shown, written, Limits, SECONDS_PER_RUN, SMALL_STACK_KIB};
+use common::{counts, example};
+use independent::random;
+
+/// Seeds of random lines, and how many of each.
+const SEEDS: [u64; 4] = [1, 2, 3, 4];
+const LINES_PER_SEED: usize = 2_000;
+
+/// What a run of the bench program may take.
+const LIMITS: Limits = Limits { seconds: SECONDS_PER_RUN, stack_kib: Some(SMALL_STACK_KIB) };
+
+/// The example's replies are those of its file, by both programs.
+#[test]
+fn bench_writes_the_example_replies_within_a_small_stack() {
+    let (input, expected) = (example("bench.input"), example("bench.output"));
+    let own = own_replies(&input);
+    assert_eq!(shown(&own), shown(&expected), "the independent program's replies to the example");
+    assert!(own == expected, "the independent program does not write examples/bench.output, byte for byte");
+    counts::say(compare("the example", &input, &expected), "reply bytes agree");
+}
+
+/// Without input there is no reply.
+#[test]
+fn bench_writes_nothing_to_no_input() {
+    assert_eq!(compare("no input", b"", b""), 0);
+}
+
+/// Random lines, well formed and not, with line ends of several kinds.
+#[test]
+fn bench_replies_to_random_lines_alike_within_a_small_stack() {
+    let compared = SEEDS.map(|seed| {
+        let input = random::bench::input(seed, LINES_PER_SEED);
+        compare(&format!("seed {seed}"), &input, &own_replies(&input))
+    });
+    counts::say(compared.into_iter().sum(), "reply bytes agree");
+}
+
+/// The replies of the independent program.
+fn own_replies(input: &[u8]) -> Vec<u8> {
+    let mut replies = Vec::new();
+    independent::bench::bench(input, &mut replies).expect("memory can be written");
+    replies
+}
+
+/// Compares the proved program's replies with those expected; how many bytes they have.
+fn compare(title: &str, input: &[u8], expected: &[u8]) -> usize {
+    let given = written(title, LIMITS, &common::bench(), input);
+    if given != expected {
+        let same = given.iter().zip(expected).take_while(|(given, expected)| given == expected).count();
+        let line = expected[..same].iter().filter(|&&byte| byte == b'\n').count();
+        let [given, expected] = [&given[..], expected].map(|bytes| line_of(bytes, line));
+        panic!("bench, {title}: reply line {} is {given:?} and not {expected:?}", line + 1);
+    }
+    expected.len()
+}
+
+/// The text of a line, counted from 0; its end too.
+fn line_of(bytes: &[u8], line: usize) -> String {
+    let line = bytes.split_inclusive(|&byte| byte == b'\n').nth(line).unwrap_or_default();
+    String::from_utf8_lossy(line).into_owned()
+}
