@@ -4,7 +4,7 @@
 
 mod common;
 
-use common::console::{build, Console, WITH_USUAL_STACK};
+use common::console::{build, cases, course, Console, WITH_USUAL_STACK};
 use common::operations::text;
 use common::running::{shown, written};
 use common::scratch::Scratch;
@@ -41,33 +41,49 @@ const AGREE: &str = "runs of the console agree";
 
 /// What the console says in words.
 const FINE: &str = "fine: no bench can refuse a command of this script";
+const UNKNOWN: &str = "refused by 1, no command of this module, or not in its form";
+const RANGE: &str = "refused by 2, a value out of range or not whole";
+const NOT_ALLOWED: &str = "refused by 3, not allowed in some state that a bench can be in";
 const NO_RESET: &str = "line 1, command 1: refused by 7, the script does not begin with *RST";
-const NO_CAPACITY: &str = "refused by 9, the capacity is not 1 to 16383";
 
-/// Capacities, scripts by name, and the verdicts in words.
-const VERDICTS: &[(&str, &str, &str)] = &[
-    ("4", "example", "line 5, command 1: refused by 3, not allowed in some state"),
-    ("4", "empty", NO_RESET),
-    ("4", "reset", FINE),
-    ("4", "no-command", NO_RESET),
-    ("4", "late-reset", NO_RESET),
-    ("4", "range", "line 1, command 2: refused by 2, a value out of range or not whole"),
-    ("4", "unknown", "line 2, command 3: refused by 1, no command of this module, or not in its form"),
-    ("1", "two-points", "line 2, command 1: refused by 3, not allowed in some state"),
-    ("2", "two-points", FINE),
-    ("4", "line-of-256", FINE),
-    ("4", "line-of-257", "line 3: refused by 8, the line is over 256 bytes"),
-    ("4", "place-256", "line 2, command 256: refused by 1, no command of this module, or not in its form"),
-    ("4", "range-before-long", "line 1, command 2: refused by 2, a value out of range or not whole"),
-    ("4", "60000-fine", FINE),
-    ("4", "60000-state", "line 11999, command 4: refused by 3, not allowed in some state"),
-    ("4", "60000-name", "line 59996, command 1: refused by 1, no command of this module, or not in its form"),
-    ("0", "reset", NO_CAPACITY),
-    ("16384", "reset", NO_CAPACITY),
-    ("4294967295", "reset", NO_CAPACITY),
-    ("1", "reset", FINE),
-    ("0016383", "reset", FINE),
-];
+/// Capacities, scripts by name, and the lines that the console writes.
+fn verdicts() -> Vec<(&'static str, &'static str, String)> {
+    let not_allowed = |capacity, line: usize, place, name, shown| {
+        let course = course(capacity, line, name);
+        (capacity, name, format!("line {line}, command {place}: {NOT_ALLOWED}\n{shown}\n{course}"))
+    };
+    let fine = |capacity, name| (capacity, name, FINE.to_string());
+    let no_capacity =
+        |capacity| (capacity, "reset", format!("refused by 9, the capacity {capacity} is not 1 to 16383"));
+    let [spaces, ends, column] = [" ".repeat(94), ";".repeat(93), " ".repeat(97)];
+    vec![
+        not_allowed("4", 5, 1, "example", "  OFLT 19\n  ^~~~~~~"),
+        not_allowed("1", 2, 1, "two-points", "  TRCB?1,0,2\n  ^~~~~~~~~~"),
+        not_allowed("4", 11_999, 4, "60000-state", "  ;;;SEND 1\n     ^~~~~~"),
+        ("4", "empty", format!("{NO_RESET}: it has no command")),
+        ("4", "no-command", format!("{NO_RESET}: it has no command")),
+        ("4", "late-reset", format!("{NO_RESET}\n  FREQ 100\n  ^~~~~~~~")),
+        ("4", "range", format!("line 1, command 2: {RANGE}\n  *RST;FREQ 102001\n       ^~~~~~~~~~~")),
+        ("4", "range-before-long", format!("line 1, command 2: {RANGE}\n  *RST;HARM 2000000\n       ^~~~~~~~~~~~")),
+        ("4", "unknown", format!("line 2, command 3: {UNKNOWN}\n  ;;OUTX? 1\n    ^~~~~~~")),
+        ("4", "place-256", format!("line 2, command 256: {UNKNOWN}\n  ..{ends}X\n{column}^")),
+        ("4", "60000-name", format!("line 59996, command 1: {UNKNOWN}\n  X\n  ^")),
+        (
+            "4",
+            "line-of-257",
+            format!("line 3: refused by 8, the line has 257 bytes, and 256 is the most\n  {spaces}.."),
+        ),
+        no_capacity("0"),
+        no_capacity("16384"),
+        no_capacity("4294967295"),
+        fine("4", "reset"),
+        fine("2", "two-points"),
+        fine("4", "line-of-256"),
+        fine("4", "60000-fine"),
+        fine("1", "reset"),
+        fine("0016383", "reset"),
+    ]
+}
 
 /// The scripts by name.
 fn scripts() -> Vec<(&'static str, Vec<u8>)> {
@@ -99,9 +115,48 @@ fn the_console_says_each_verdict_in_words() {
         assert!(!name.starts_with("60000") || script.len() == MOST_BYTES, "{name} has {} bytes", script.len());
         console.scratch.file(name, &script);
     }
-    for (capacity, script, words) in VERDICTS {
-        console.expect_verdict(capacity, script, words);
+    for (capacity, script, lines) in verdicts() {
+        console.expect_verdict(capacity, script, &lines);
     }
+    counts::say(console.runs, AGREE);
+}
+
+/// The command that is refused is marked in its line, wherever it stands and whatever bytes are about it.
+#[test]
+fn the_console_marks_the_refused_command() {
+    let mut console = Console::new();
+    let text = String::from_utf8(example("console.cases")).expect("the cases are text");
+    for case in cases(&text) {
+        console.scratch.file("script", &case.script);
+        console.expect_verdict("4", "script", &case.lines);
+    }
+    counts::say(console.runs, AGREE);
+}
+
+/// Behind a refusal by 3 a file's name stands as a shell reads it.
+#[test]
+fn the_console_writes_a_file_name_as_a_shell_word() {
+    let mut console = Console::new();
+    for (file, word) in [("it's", "'it'\\''s'"), ("a b", "'a b'"), ("-x", "./-x")] {
+        console.scratch.file(file, b"*RST\nSTRT;SEND 1");
+        let course = course("4", 2, word);
+        let lines = format!("line 2, command 2: {NOT_ALLOWED}\n  STRT;SEND 1\n       ^~~~~~\n{course}");
+        console.expect_verdict("4", file, &lines);
+    }
+    counts::say(console.runs, AGREE);
+}
+
+/// Where the script up to the refused line is longer than `script_why` takes, the console says so.
+#[test]
+fn the_console_names_no_course_past_what_script_why_takes() {
+    let mut console = Console::new();
+    let script = ["*RST\n", &"STRT\n".repeat(11_997), ";;; SEND 1\n"].concat();
+    assert_eq!(script.len(), MOST_BYTES + 1, "the script's bytes");
+    console.scratch.file("script", script.as_bytes());
+    let none =
+        "script_why can show no course for it: it takes at most 60000 bytes, and the script has 60001 up to here";
+    let lines = format!("line 11999, command 4: {NOT_ALLOWED}\n  ;;; SEND 1\n      ^~~~~~\n{none}");
+    console.expect_verdict("4", "script", &lines);
     counts::say(console.runs, AGREE);
 }
 
@@ -110,8 +165,7 @@ fn the_console_says_each_verdict_in_words() {
 fn the_console_names_a_line_past_two_to_the_24() {
     let mut console = Console::new();
     console.scratch.file("long", &[&b"*RST"[..], &vec![b'\n'; MANY_LINES - 1], b"X"].concat());
-    let words = "line 17000000, command 1: refused by 1, no command of this module, or not in its form";
-    console.expect_verdict("4", "long", words);
+    console.expect_verdict("4", "long", &format!("line {MANY_LINES}, command 1: {UNKNOWN}\n  X\n  ^"));
     counts::say(console.runs, AGREE);
 }
 

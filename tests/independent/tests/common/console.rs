@@ -1,6 +1,6 @@
 //! The two programs in C over the script check, and what the console is to write.
 
-use super::running::{run, shown, Limits, SMALL_STACK_KIB};
+use super::running::{run_in, shown, Limits, SMALL_STACK_KIB};
 use super::scratch::Scratch;
 use super::{root, variable};
 use std::path::{Path, PathBuf};
@@ -49,11 +49,10 @@ impl Console {
         Console { scratch, program, runs: 0 }
     }
 
-    /// Expects a verdict: in words on standard output, and by the exit status, 0 for `fine`.
-    pub fn expect_verdict(&mut self, capacity: &str, script: &str, words: &str) {
-        let status = if words.starts_with("fine") { 0 } else { 1 };
-        let file = self.path(script);
-        self.expect(status, &format!("{words}\n"), "", &[capacity, &file]);
+    /// Expects a verdict on a file of the console's folder: lines on standard output, and the exit status, 0 for `fine`.
+    pub fn expect_verdict(&mut self, capacity: &str, script: &str, lines: &str) {
+        let status = if lines.starts_with("fine") { 0 } else { 1 };
+        self.expect(status, &format!("{lines}\n"), "", &[capacity, script]);
     }
 
     /// Expects a complaint about the arguments.
@@ -66,9 +65,9 @@ impl Console {
         self.scratch.folder().join(name).to_str().expect("the path is text").to_string()
     }
 
-    /// Runs the console with a small stack; its exit status, standard output and standard error are these.
+    /// Runs the console in its folder with a small stack; its exit status, standard output and standard error are these.
     fn expect(&mut self, status: i32, output: &str, error: &str, arguments: &[&str]) {
-        let given = run(WITH_SMALL_STACK, &self.program, arguments, b"");
+        let given = run_in(self.scratch.folder(), WITH_SMALL_STACK, &self.program, arguments, b"");
         let title = format!("console {arguments:?} ended with {}", given.status);
         let [written, complaint] = [&given.stdout, &given.stderr].map(|bytes| String::from_utf8_lossy(bytes));
         assert_eq!(given.status.code(), Some(status), "{title}, and wrote {written:?} {complaint:?}");
@@ -76,4 +75,48 @@ impl Console {
         assert_eq!(complaint, error, "{title}: standard error");
         self.runs += 1;
     }
+}
+
+/// The lines behind a refusal by 3: how a course that shows it is written and replayed. The file is a shell's word.
+pub fn course(capacity: &str, line: usize, file: &str) -> String {
+    format!(
+        "for a course that shows it, which script_why writes and ops replays:\n  \
+        {{ echo {capacity}; head -n {line} {file}; }} | target/bin/script_why | tail -n +2 | target/bin/ops"
+    )
+}
+
+/// A script, and the lines that the console writes of it at capacity 4, its file named `script`.
+pub struct Case {
+    pub script: Vec<u8>,
+    pub lines: String,
+}
+
+/// The cases of a text, which are divided by empty lines. Lines behind `#` are passed over, those behind `script:` make
+/// the script, and the others are the console's.
+pub fn cases(text: &str) -> Vec<Case> {
+    text.split("\n\n").map(case).filter(|case| !case.script.is_empty()).collect()
+}
+
+/// The case of some lines.
+fn case(text: &str) -> Case {
+    let lines = text.lines().filter(|line| !line.starts_with('#'));
+    let (script, lines): (Vec<&str>, Vec<&str>) = lines.partition(|line| line.starts_with("script:"));
+    let script = script.iter().flat_map(|line| unescaped(&line["script:".len()..])).collect();
+    Case { script, lines: lines.join("\n").trim_end_matches('\n').to_string() }
+}
+
+/// The bytes of a text in which `\n` is LF, `\r` CR and `\xHH` any byte.
+fn unescaped(text: &str) -> Vec<u8> {
+    let mut parts = text.split('\\');
+    let mut bytes = parts.next().unwrap_or_default().as_bytes().to_vec();
+    for part in parts {
+        let (escape, rest) = part.split_at(if part.starts_with('x') { 3 } else { 1 });
+        bytes.push(match escape {
+            "n" => b'\n',
+            "r" => b'\r',
+            _ => u8::from_str_radix(&escape[1..], 16).unwrap_or_else(|_| panic!("no escape: {escape}")),
+        });
+        bytes.extend(rest.as_bytes());
+    }
+    bytes
 }

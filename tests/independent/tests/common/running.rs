@@ -25,11 +25,16 @@ pub const USUAL: Limits = Limits { seconds: SECONDS_PER_RUN, stack_kib: None };
 
 /// Runs a program on these bytes; how it ended and what it wrote.
 pub fn run<A: AsRef<OsStr>>(limits: Limits, program: &Path, arguments: &[A], input: &[u8]) -> Output {
+    run_in(Path::new("."), limits, program, arguments, input)
+}
+
+/// The same in a folder.
+pub fn run_in<A: AsRef<OsStr>>(folder: &Path, limits: Limits, program: &Path, arguments: &[A], input: &[u8]) -> Output {
     let stack = limits.stack_kib.map_or(String::new(), |kib| format!("ulimit -s {kib} && "));
     let words = format!("{stack}exec timeout {} \"$@\"", limits.seconds);
     let mut command = Command::new("sh");
     command.args(["-c", &words, "sh"]).arg(program).args(arguments).stdin(standard_input(input));
-    command.output().unwrap_or_else(|error| panic!("{}: {error}", program.display()))
+    command.current_dir(folder).output().unwrap_or_else(|error| panic!("{}: {error}", program.display()))
 }
 
 /// What a program writes to these bytes within the limits; the test fails unless it ends with status 0.
