@@ -157,7 +157,7 @@ two-not d e s = by (ltb (span comma s) (length s)) refl (ltb (span comma (after 
 
 -- two numbers, the second from behind the comma to the end
 abbrev both : Reading → Reading → TwoNumbers
-both (Number a) (Number b) = pair.ReportNumbers a b
+both (Number a) (Number b) = pair.Values a b
 both (Number a) NotNumber = pair.Not
 both NotNumber r = pair.Not
 
@@ -166,7 +166,7 @@ module _ (d e : ℕ) (s : List ℕ) (k : ℕ) (at : twoOf s ≡ At k) where
       ≡ both (readOf d (take k s)) (readOf e (take (length s - (k + 1)) (drop (k + 1) s)))
   unfolding readTwo readOf
   two-read = rw (two-at s k at .1, rest-from s (k + 1), add-one k) (by (isNumber (take k s)) (isNumber (drop (suc k) s))) where
-    by : (t u : Bool) → cond (t && u) (pair.ReportNumbers (kept d (take k s)) (kept e (drop (suc k) s))) pair.Not
+    by : (t u : Bool) → cond (t && u) (pair.Values (kept d (take k s)) (kept e (drop (suc k) s))) pair.Not
         ≡ both (cond t (Number (kept d (take k s))) NotNumber) (cond u (Number (kept e (drop (suc k) s))) NotNumber)
     by true true = refl
     by true false = refl
@@ -174,7 +174,7 @@ module _ (d e : ℕ) (s : List ℕ) (k : ℕ) (at : twoOf s ≡ At k) where
 
 -- a first number, and two more
 abbrev pub joined : Reading → TwoNumbers → ThreeNumbers
-joined (Number a) (pair.ReportNumbers b c) = triple.ReportNumbers a b c
+joined (Number a) (pair.Values b c) = triple.Values a b c
 joined (Number a) pair.Not = triple.Not
 joined NotNumber t = triple.Not
 
@@ -188,8 +188,8 @@ unfolding readThree readTwo readOf
 three-join d e f a [] = sym (joined-not (readOf d a))
 three-join d e f a (b ∷ []) = sym (joined-not (readOf d a))
 three-join d e f a (b ∷ c ∷ []) = by (isNumber a) (isNumber b && isNumber c) where
-  by : (t u : Bool) → cond (t && u) (triple.ReportNumbers (kept d a) (kept e b) (kept f c)) triple.Not
-      ≡ joined (cond t (Number (kept d a)) NotNumber) (cond u (pair.ReportNumbers (kept e b) (kept f c)) pair.Not)
+  by : (t u : Bool) → cond (t && u) (triple.Values (kept d a) (kept e b) (kept f c)) triple.Not
+      ≡ joined (cond t (Number (kept d a)) NotNumber) (cond u (pair.Values (kept e b) (kept f c)) pair.Not)
   by true true = refl
   by true false = refl
   by false u = refl

@@ -41,11 +41,11 @@ of-one k (Number q) = k q
 of-one k NotNumber = malformed
 
 abbrev pub of-two : (Quantity → Quantity → Parsed) → TwoNumbers → Parsed
-of-two k (pair.ReportNumbers p q) = k p q
+of-two k (pair.Values p q) = k p q
 of-two k pair.Not = malformed
 
 abbrev pub of-three : (Quantity → Quantity → Quantity → Parsed) → ThreeNumbers → Parsed
-of-three k (triple.ReportNumbers p q r) = k p q r
+of-three k (triple.Values p q r) = k p q r
 of-three k triple.Not = malformed
 
 -- numbers that are read and taken alike: by one, by two, by three
@@ -65,7 +65,7 @@ module _ (d e : ℕ) (k : List ℕ → List ℕ → Parsed) (j : Quantity → Qu
   two-is [] = refl
   two-is (a ∷ []) = refl
   two-is (a ∷ b ∷ []) = by (isNumber a && isNumber b) where
-    by : (t : Bool) → cond t (k a b) malformed ≡ of-two j (cond t (pair.ReportNumbers (kept d a) (kept e b)) pair.Not)
+    by : (t : Bool) → cond t (k a b) malformed ≡ of-two j (cond t (pair.Values (kept d a) (kept e b)) pair.Not)
     by true = same a b
     by false = refl
   two-is (a ∷ b ∷ c ∷ more) = refl
@@ -79,7 +79,7 @@ module _ (d e f : ℕ) (k : List ℕ → List ℕ → List ℕ → Parsed) (j : 
   three-is (a ∷ b ∷ []) = refl
   three-is (a ∷ b ∷ c ∷ []) = by (isNumber a && (isNumber b && isNumber c)) where
     by : (t : Bool) →
-        cond t (k a b c) malformed ≡ of-three j (cond t (triple.ReportNumbers (kept d a) (kept e b) (kept f c)) triple.Not)
+        cond t (k a b c) malformed ≡ of-three j (cond t (triple.Values (kept d a) (kept e b) (kept f c)) triple.Not)
     by true = same a b c
     by false = refl
   three-is (a ∷ b ∷ c ∷ g ∷ more) = refl

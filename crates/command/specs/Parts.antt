@@ -56,7 +56,7 @@ readOne d (a ∷ b ∷ more) = NotNumber
 unfoldable pub readTwo : ℕ → ℕ → List (List ℕ) → TwoNumbers
 readTwo d e [] = pair.Not
 readTwo d e (a ∷ []) = pair.Not
-readTwo d e (a ∷ b ∷ []) = cond (isNumber a && isNumber b) (pair.ReportNumbers (kept d a) (kept e b)) pair.Not
+readTwo d e (a ∷ b ∷ []) = cond (isNumber a && isNumber b) (pair.Values (kept d a) (kept e b)) pair.Not
 readTwo d e (a ∷ b ∷ c ∷ more) = pair.Not
 
 -- three arguments that are numbers with d, e and f decimals
@@ -65,7 +65,7 @@ readThree d e f [] = triple.Not
 readThree d e f (a ∷ []) = triple.Not
 readThree d e f (a ∷ b ∷ []) = triple.Not
 readThree d e f (a ∷ b ∷ c ∷ []) =
-    cond (isNumber a && (isNumber b && isNumber c)) (triple.ReportNumbers (kept d a) (kept e b) (kept f c)) triple.Not
+    cond (isNumber a && (isNumber b && isNumber c)) (triple.Values (kept d a) (kept e b) (kept f c)) triple.Not
 readThree d e f (a ∷ b ∷ c ∷ g ∷ more) = triple.Not
 
 -- a quantity as a whole-number argument from low to high

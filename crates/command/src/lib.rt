@@ -103,7 +103,7 @@ enum Two {
 // Whether a text is two arguments that are numbers.
 enum TwoNumbers {
     // Their values, in order.
-    ReportNumbers(Quantity, Quantity),
+    Values(Quantity, Quantity),
     // Another count, or a text that is no number.
     Not,
 }
@@ -111,7 +111,7 @@ enum TwoNumbers {
 // Whether a text is three arguments that are numbers.
 enum ThreeNumbers {
     // Their values, in order.
-    ReportNumbers(Quantity, Quantity, Quantity),
+    Values(Quantity, Quantity, Quantity),
     // Another count, or a text that is no number.
     Not,
 }
@@ -169,7 +169,7 @@ fn read_two(args: &[u8], first: u8, second: u8) -> TwoNumbers
     let Reading::Number(b) = number::read(&args[start..], second) else {
         return TwoNumbers::Not;
     };
-    TwoNumbers::ReportNumbers(a, b)
+    TwoNumbers::Values(a, b)
 }
 
 // Three arguments as numbers, in units by their decimals `first`, `second` and `third`.
@@ -182,10 +182,10 @@ fn read_three(args: &[u8], first: u8, second: u8, third: u8) -> ThreeNumbers
         let Reading::Number(a) = number::read(&args[..comma], first) else {
             return ThreeNumbers::Not;
         };
-        let TwoNumbers::ReportNumbers(b, c) = read_two(&args[start..], second, third) else {
+        let TwoNumbers::Values(b, c) = read_two(&args[start..], second, third) else {
             return ThreeNumbers::Not;
         };
-        return ThreeNumbers::ReportNumbers(a, b, c);
+        return ThreeNumbers::Values(a, b, c);
     }
     ThreeNumbers::Not
 }
@@ -369,7 +369,7 @@ fn set_channel(base: u8, channels: u8, args: &[u8]) -> Parsed
     ensures { λ r. ⌜ r ≡ setChannel base channels (arguments (now (args .entry))) ⌝ }
 {
     let row = settings::row_of(base as usize);
-    let TwoNumbers::ReportNumbers(i, x) = read_two(args, 0, row.decimals) else {
+    let TwoNumbers::Values(i, x) = read_two(args, 0, row.decimals) else {
         return Parsed::Refused(Refusal::Malformed);
     };
     take_channel(base, channels, i, x)
@@ -382,8 +382,7 @@ fn set_pair(base: u8, channels: u8, args: &[u8]) -> Parsed
     let first = base as usize;
     let row = settings::row_of(first);
     let next = settings::row_of(first + 1);
-    let ThreeNumbers::ReportNumbers(i, x, y) = read_three(args, 0, row.decimals, next.decimals)
-    else {
+    let ThreeNumbers::Values(i, x, y) = read_three(args, 0, row.decimals, next.decimals) else {
         return Parsed::Refused(Refusal::Malformed);
     };
     take_pair(base, channels, i, x, y)
@@ -400,7 +399,7 @@ fn set_enable(register: Register, args: &[u8]) -> Parsed
         };
         return take_enable(register, v);
     }
-    let TwoNumbers::ReportNumbers(i, v) = read_two(args, 0, 0) else {
+    let TwoNumbers::Values(i, v) = read_two(args, 0, 0) else {
         return Parsed::Refused(Refusal::Malformed);
     };
     take_enable_bit(register, i, v)
@@ -456,7 +455,7 @@ fn query_status(register: Register, args: &[u8]) -> Parsed
 fn query_trace(form: Form, args: &[u8]) -> Parsed
     ensures { λ r. ⌜ r ≡ queryTrace form (arguments (now (args .entry))) ⌝ }
 {
-    let ThreeNumbers::ReportNumbers(i, j, k) = read_three(args, 0, 0, 0) else {
+    let ThreeNumbers::Values(i, j, k) = read_three(args, 0, 0, 0) else {
         return Parsed::Refused(Refusal::Malformed);
     };
     ask_trace(form, i, j, k)
