@@ -1,10 +1,10 @@
 -- Texts put together: nothing of a reply's text is dropped. Assumes nothing.
 use Prim.Native.Nat.{ℕ, _+_, _≤_, _<_}
-use mathlib.Core.Path.{_≡_, sym, _∙_}
+use mathlib.Core.Path.{_≡_, sym, ap, _∙_}
 use mathlib.Core.List.{List, [], _∷_, _++_}
 use native.Mathlib.Numerals.{add-one}
 use native.Mathlib.Omega.{arith}
-use lib.ListN.{length, take, getD, length-append}
+use lib.ListN.{length, take, getD, length-append, length-take}
 use lib.Seq.{take-suc}
 use Rattle.split.specs.Ascii.{bytes}
 use Rattle.settings.specs.Table.{rowOf}
@@ -66,3 +66,8 @@ says-as n h l e = (h .0 ∙ sym e, omega (arith, h .1))
 
 pub says-none : {r : List ℕ} → r ≡ [] → Says 0 r []
 says-none e = (e, rw e (omega arith))
+
+-- a text that leaves some of its bytes has as many as its length says
+pub says-counted : {m : ℕ} {bs : List ℕ} (n : ℕ) (room : List ℕ) → Says m (take n room) bs → m < length room →
+    length bs ≡ n
+says-counted n room h l = omega (arith, length-take n room, ap length (h .0), h .1)

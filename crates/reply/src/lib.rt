@@ -1,7 +1,8 @@
 // What a query replies: a text with its end, or points of a trace.
 ghost use mathlib.Core.Path.{_≡_};
-ghost use mathlib.Core.List.{[]};
-ghost use Prim.Native.Nat.{_+_};
+ghost use mathlib.Core.List.{List, []};
+ghost use Prim.Native.Nat.{ℕ, _+_};
+ghost use lib.ListN.{length};
 ghost use Rattle.storage.specs.Storage.{oldestOf};
 ghost use Rattle.reply_buffer.specs.Parts.{sentBy, Sends};
 ghost use Rattle.reply.specs.Reply.{terminatedText, traceReply, queryReply, replyOf};
@@ -98,4 +99,32 @@ pub fn send_reply(
         return nothing();
     };
     send_query(s, q, waiting, one, two, out)
+}
+
+// How many bytes the text that a query replies has, its end counted.
+fn text_length(s: State, q: QueryArgument, waiting: bool) -> usize
+    ensures { λ r. ⌜ r ≡ length (terminatedText q s waiting) ⌝ }
+{
+    let t = text::text_of(s, q, waiting);
+    t.len + 1
+}
+
+// How many bytes a query replies: four a point for a trace read.
+fn query_length(s: State, q: QueryArgument, waiting: bool) -> usize
+    ensures { λ r. ⌜ ((one two : List ℕ) → r ≡ length (queryReply q s waiting one two)) ⌝ }
+{
+    if let QueryArgument::Trace(_, _, _, count) = q {
+        return 4 * (count as usize);
+    }
+    text_length(s, q, waiting)
+}
+
+// How many bytes a command's reply has, whatever the traces hold.
+pub fn reply_length(s: State, kind: Kind, waiting: bool) -> usize
+    ensures { λ r. ⌜ ((one two : List ℕ) → r ≡ length (replyOf kind s waiting one two)) ⌝ }
+{
+    let Kind::Query(q) = kind else {
+        return 0;
+    };
+    query_length(s, q, waiting)
 }
