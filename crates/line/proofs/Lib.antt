@@ -2,3 +2,4 @@
 pub mod Effects
 pub mod Steps
 pub mod LoopStep
+pub mod DryPass

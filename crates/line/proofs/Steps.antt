@@ -41,7 +41,7 @@ module _ (reply : List ℕ) (at : ℕ) (h : at ≤ length reply) where
       ∙ rw (over-take (take at reply) reply, over-drop (take at reply) reply) at (over-more (take at reply) out reply)
 
   pub part-fits : (new : List ℕ) (w : ℕ) → w ≤ length new → length new ≡ length (part reply at) →
-      length reply * 1 < 2 ^ 63 → at + w < 9223372036854775808
+      length reply * 1 < 2 ^ 63 → at + w < 18446744073709551616
   part-fits new w f e g = omega (arith, part-room, length-take-le at reply h)
 
   pub mended-fits : (new : List ℕ) (w : ℕ) → w ≤ length new → at + w ≤ length (mended reply at new)

@@ -1,6 +1,8 @@
 // A line: its commands one after the other, each lent the reply room from the bytes already written onward.
 ghost use mathlib.Core.Path.{_≡_};
-ghost use Prim.Native.Nat.{_+_, _≤_, _<_};
+ghost use mathlib.Core.Bool.{not};
+ghost use mathlib.Core.List.{List};
+ghost use Prim.Native.Nat.{ℕ, _+_, _≤_, _<_};
 ghost use lib.ListN.{length};
 ghost use Rattle.split.specs.Divide.{parts};
 ghost use Rattle.command.specs.Parsed.{parsedOf};
@@ -9,6 +11,9 @@ ghost use Rattle.line.specs.Line.{afterCommand, runAll, startLine};
 ghost use Rattle.line.specs.Parts.{commandResult, refusedWith, textsRun, progressAfter, progressOf, lineReached};
 ghost use Rattle.line_text.specs.Texts.{semicolon};
 ghost use Rattle.reply_buffer.specs.After.{Meets};
+
+mod dry;
+
 use command::Command;
 use command::Parsed;
 use outcome::Answer;
@@ -109,7 +114,7 @@ fn take_command(
 
 // The line after one more command.
 fn after(p: Progress, d: CommandResult) -> Progress
-    requires { ⌜ (p .at + d .written < 9223372036854775808) × (p .count < 1000) ⌝ }
+    requires { ⌜ (p .at + d .written < 18446744073709551616) × (p .count < 1000) ⌝ }
     ensures { λ r. ⌜ r ≡ progressAfter p d ⌝ }
 {
     let count = p.count + 1;
@@ -188,4 +193,18 @@ pub fn run_line(
     let bytes = c.bytes;
     let len = c.len;
     run(s, &bytes[0..len], one, two, reply)
+}
+
+// Whether no command of a line would be refused by 4, where `room` bytes are lent for its replies: the line is gone
+// through on the state alone.
+pub fn fits(s: State, line: &[u8], room: usize) -> bool
+    ensures { λ r. ⌜ ((one two : List ℕ) →
+        r ≡ not (runAll room (textsRun (now (line .entry))) (startLine s one two) .report .dropped)) ⌝ }
+{
+    let c = line_text::clean(line);
+    let bytes = c.bytes;
+    let len = c.len;
+    let p = dry::run(s, &bytes[0..len], room);
+    let dropped = p.dropped;
+    !dropped
 }
