@@ -1,4 +1,5 @@
--- A line gone through on the state alone comes to what the line run comes to, whatever the traces hold. Assumes nothing.
+-- A line gone through on the state alone comes to what the line run comes to, whatever the traces hold. Assumes
+-- nothing.
 use Prim.Native.Nat.{ℕ, _+_, _-_, _<_, _≤_}
 use mathlib.Core.Path.{_≡_, ap, ap₂, _∙_}
 use mathlib.Core.Bool.{Bool, true, false, cond}

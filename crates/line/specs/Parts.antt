@@ -1,9 +1,12 @@
--- What the code gives back for a command and for a line on its way (§2.6, §2.7). No promise of a public call speaks of
--- these.
-use Prim.Native.Nat.{ℕ, _+_}
-use mathlib.Core.List.{List}
+-- What the code gives back for a command and for a line on its way (§2.6, §2.7), and which lines surely find room for
+-- their replies (§12.4, §12.13). No promise of a public call speaks of these.
+use Prim.Native.Nat.{ℕ, _+_, _/_}
+use mathlib.Core.Bool.{Bool, false, not, _&&_, _||_}
+use mathlib.Core.List.{List, [], _∷_}
+use lib.Dec.{ltb, eqb}
 use lib.ListN.{length, take}
 use Rattle.split.specs.Divide.{parts}
+use Rattle.command.specs.Arguments.{questionMark, comma}
 use Rattle.line_text.specs.Clean.{lineLimit, cleaned}
 use Rattle.line_text.specs.Texts.{semicolon}
 use Rattle.outcome.specs.declared.Refusal.{Refusal}
@@ -62,3 +65,17 @@ lineReached p one two reply =
       out = take (p .at) reply;
       report = record { answer = p .answer; count = p .count; dropped = p .dropped };
     }
+
+-- whether a byte stands in a text
+abbrev pub has : ℕ → List ℕ → Bool
+has b [] = false
+has b (x ∷ xs) = eqb x b || has b xs
+
+-- §11.1 and §11.3: the most bytes of a reply that is no trace read: those of *IDN? with their end
+abbrev pub textMost : ℕ
+textMost = 28
+
+-- §12.4 and §12.13: whether a line's bytes alone show that no command of it is refused by 4: without "?" none replies
+-- (§3.1); without "," none reads a trace (§8.1), and the room has a text for one more command than the line has bytes
+unfoldable pub mustFit : List ℕ → ℕ → Bool
+mustFit line room = not (has questionMark line) || (not (has comma line) && ltb (length line) (room / textMost))

@@ -1,6 +1,7 @@
 // A line gone through on the state alone, command by command: no trace and no reply is written. Only the lengths of the
 // replies are counted, so that the pass comes to what the line would come to, whatever the traces hold.
 ghost use mathlib.Core.Path.{_≡_};
+ghost use mathlib.Core.Bool.{not};
 ghost use mathlib.Core.List.{List};
 ghost use Prim.Native.Nat.{ℕ, _+_, _≤_, _<_};
 ghost use lib.ListN.{length};
@@ -9,7 +10,7 @@ ghost use Rattle.command.specs.Parsed.{parsedOf};
 ghost use Rattle.line_text.specs.Texts.{semicolon};
 ghost use Rattle.line.specs.Perform.{performed, commandOf};
 ghost use Rattle.line.specs.Line.{Line, afterCommand, runAll, startLine};
-ghost use Rattle.line.specs.Parts.{commandResult, progressOf};
+ghost use Rattle.line.specs.Parts.{commandResult, progressOf, textsRun};
 use crate::CommandResult;
 use crate::Progress;
 use crate::after;
@@ -102,4 +103,17 @@ pub fn run(s: State, text: &[u8], room: usize) -> Progress
         }
         a = e + 1;
     }
+}
+
+// Whether no command of a line would be refused by 4: of its first 256 bytes that count, as the line is run.
+pub fn fits(s: State, line: &[u8], room: usize) -> bool
+    ensures { λ r. ⌜ ((one two : List ℕ) →
+        r ≡ not (runAll room (textsRun (now (line .entry))) (startLine s one two) .report .dropped)) ⌝ }
+{
+    let c = line_text::clean(line);
+    let bytes = c.bytes;
+    let len = c.len;
+    let p = run(s, &bytes[0..len], room);
+    let dropped = p.dropped;
+    !dropped
 }

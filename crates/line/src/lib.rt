@@ -13,6 +13,7 @@ ghost use Rattle.line_text.specs.Texts.{semicolon};
 ghost use Rattle.reply_buffer.specs.After.{Meets};
 
 mod dry;
+mod quick;
 
 use command::Command;
 use command::Parsed;
@@ -196,15 +197,14 @@ pub fn run_line(
 }
 
 // Whether no command of a line would be refused by 4, where `room` bytes are lent for its replies: the line is gone
-// through on the state alone.
+// through on the state alone, and not at all where its bytes show that they must find room.
 pub fn fits(s: State, line: &[u8], room: usize) -> bool
     ensures { λ r. ⌜ ((one two : List ℕ) →
         r ≡ not (runAll room (textsRun (now (line .entry))) (startLine s one two) .report .dropped)) ⌝ }
 {
-    let c = line_text::clean(line);
-    let bytes = c.bytes;
-    let len = c.len;
-    let p = dry::run(s, &bytes[0..len], room);
-    let dropped = p.dropped;
-    !dropped
+    let sure = quick::must_fit(line, room);
+    if sure {
+        return true;
+    }
+    dry::fits(s, line, room)
 }

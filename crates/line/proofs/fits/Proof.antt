@@ -1,26 +1,32 @@
--- `line::fits` meets its contract: the line is cleaned, then gone through on the state alone. Assumes nothing.
-use native.Mathlib.Nat.{sub-zero}
+-- `line::fits` meets its contract: by the line's bytes, else by the pass on the state alone. Assumes nothing.
+use Prim.Native.Nat.{ℕ}
 use mathlib.Core.Bool.{not}
-use mathlib.Core.Path.{_≡_, ap}
-use native.Mathlib.Omega.{arith}
-use lib.ListN.{length}
+use mathlib.Core.Path.{sym, ap, _∙_}
+use borrow.Author.Tests.{lt-ltb}
 use borrow.Author.Needs.{needs}
+use mir.Syntax.{w32}
+use mir.Val.{Fits}
+use Rattle.settings.specs.Table.{valueOf}
+use Rattle.line.proofs.Sized.{Sized}
+use Rattle.line.proofs.MustFit.{must-pass}
 use Rattle.line.proofs.fits.Statement.{statement}
 use Rattle.line.proofs.fits.Tie as tie
 
-part-run-end : tie.Need-part-run-end
-part-run-end c =
-    let h : length (c .before .before .clean .result .bytes) ≡ 256 = search needs in
-    omega (arith, c .before .before .clean .ensures .1)
-
 returns : tie.Need-returns
 returns c one two =
-    let cleaned = c .before .before .before .before .clean in
-    let ran = rw (sub-zero (cleaned .result .len)) at (c .run .ensures one two) in
-    rw (← cleaned .ensures .0) (ap (λ p. not (p .dropped)) ran)
+    let a = c .before .before .before .args in
+    let fit : (entry : ℕ) → Fits w32 (valueOf (a .s .settings) entry) = λ entry. search needs in
+    let sized : Sized (a .s) =
+    record {
+      values = λ entry. lt-ltb (valueOf (a .s .settings) entry) 4294967296 (fit entry .fits);
+      external = search needs;
+      held = search needs;
+      capacity = search needs;
+      registers = record { standard = search needs; lia = search needs; errors = search needs };
+      enables = record { standard = search needs; service = search needs; lia = search needs; errors = search needs };
+    } in
+    let sure = sym (c .before .must-fit .ensures) ∙ c .if1 .taken in
+    sym (ap not (must-pass (a .line .now) (a .room) (a .s) one two sized sure))
 
 pub fits-spec : {M : Type 1} → statement M
-fits-spec =
-    tie.close
-    (tie.spec (λ c κs. search needs) (λ c. search needs) (λ c. search needs) part-run-end (λ c κs. search needs)
-    returns)
+fits-spec = tie.close (tie.spec (λ c κs. search needs) returns (λ c κs. search needs) (λ c. search needs))

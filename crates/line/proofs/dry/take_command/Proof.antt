@@ -1,5 +1,5 @@
 -- `line::dry::take_command` meets its contract: by what the text is read as. Assumes nothing.
-use mathlib.Core.Path.{refl, sym}
+use mathlib.Core.Path.{sym}
 use native.Mathlib.Omega.{arith}
 use borrow.Author.Needs.{needs}
 use Rattle.line.specs.Perform.{commandOf}
