@@ -197,7 +197,7 @@ pub fn run_line(
 }
 
 // Whether no command of a line would be refused by 4, where `room` bytes are lent for its replies: the line is gone
-// through on the state alone, and not at all where its bytes show that they must find room.
+// through on the state alone, and not at all where its bytes show that its replies must find room.
 pub fn fits(s: State, line: &[u8], room: usize) -> bool
     ensures { λ r. ⌜ ((one two : List ℕ) →
         r ≡ not (runAll room (textsRun (now (line .entry))) (startLine s one two) .report .dropped)) ⌝ }
