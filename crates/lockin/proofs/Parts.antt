@@ -63,7 +63,7 @@ guarded-queue report (outcome.Refused r) step m one two = refl
 -- ---- lengths
 
 -- a line's end among at most lineLimit bytes
-within : (l : List ℕ) (n : ℕ) → length l ≤ lineLimit → take (min n lineLimit) l ≡ take n l
+pub within : (l : List ℕ) (n : ℕ) → length l ≤ lineLimit → take (min n lineLimit) l ≡ take n l
 within l n h = by (leb n lineLimit) refl where
   by : (t : Bool) → leb n lineLimit ≡ t → take (min n lineLimit) l ≡ take n l
   by true e = let same : min n lineLimit ≡ n = omega (arith, leb-true n lineLimit e) in rw same

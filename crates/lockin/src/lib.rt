@@ -15,6 +15,12 @@ ghost use Rattle.lockin.specs.Start.{refusedStart, startCall};
 ghost use Rattle.lockin.specs.Calls.{lineCall, byteCall, lineResult, eventCall, eventResult, pollCall};
 ghost use Rattle.lockin.specs.Calls.{guarded, refusedWhole, lineRan, lineEnd, wholeEnd};
 ghost use Rattle.lockin.specs.Parts.{lengthOf, resultOf, GuardedStep};
+
+mod byte_run;
+
+pub use byte_run::RunReport;
+pub use byte_run::RunResult;
+pub use byte_run::take_run;
 pub use event::Event;
 use event::EventEffect;
 use line::Progress;

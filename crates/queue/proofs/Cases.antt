@@ -1,11 +1,11 @@
 -- What a byte does, case by case. Assumes nothing.
 use Prim.Native.Nat.{ℕ, _≤_, _<_}
 use mathlib.Core.Path.{_≡_}
-use mathlib.Core.Bool.{Bool, true, false, cond, _||_}
+use mathlib.Core.Bool.{Bool, true, false, cond}
 use borrow.Author.Tests.{lt-ltb, le-ltb}
 use Rattle.queue.specs.declared.Queue.{Queue}
 use Rattle.queue.specs.declared.LineEnd.the-variants.{Nothing, Line}
-use Rattle.queue.specs.Queue.{lineLimit, endsLine, isMarked, longer, droppedOf, tooLongOf, appendedOf, receivedOf}
+use Rattle.queue.specs.Queue.{lineLimit, endsLine, isMarked, isEnd, longer, droppedOf, tooLongOf, appendedOf, receivedOf}
 
 -- a byte that is no line end of its own, where it fits and where it does not
 module _ (q : Queue) (b : ℕ) (marked : Bool) where
@@ -18,7 +18,7 @@ module _ (q : Queue) (b : ℕ) (marked : Bool) where
   added-full h = rw (le-ltb (q .len) lineLimit h)
 
 module _ (q : Queue) (port b : ℕ) (mark : Bool) where
-  pub received-dropped : q .discarding ≡ true → receivedOf q port b mark ≡ droppedOf q (endsLine port b || isMarked port mark)
+  pub received-dropped : q .discarding ≡ true → receivedOf q port b mark ≡ droppedOf q (isEnd port b mark)
   unfolding receivedOf
   received-dropped d = rw d
 

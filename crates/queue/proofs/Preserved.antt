@@ -1,14 +1,14 @@
 -- A state's queue stays one that a state may hold. Assumes nothing.
 use Prim.Native.Nat.{ℕ, _<_}
 use mathlib.Core.Path.{_≡_, refl, sym, _∙_}
-use mathlib.Core.Bool.{Bool, true, false, not, _||_, false≢true}
+use mathlib.Core.Bool.{Bool, true, false, not, false≢true}
 use native.Mathlib.Omega.{arith}
 use lib.Dec.{ltb}
 use lib.ListN.{length}
 use borrow.Author.Tests.{ltb-true, ltb-false}
 use Rattle.laws.proofs.Tests.{split}
 use Rattle.queue.specs.declared.Queue.{Queue}
-use Rattle.queue.specs.Queue.{lineLimit, emptyQueue, emptiedOf, discardingIs, longer, waitingBytes, endsLine, isMarked, droppedOf, tooLongOf, appendedOf, receivedOf, noEnd, isValid}
+use Rattle.queue.specs.Queue.{lineLimit, emptyQueue, emptiedOf, discardingIs, longer, waitingBytes, endsLine, isMarked, isEnd, droppedOf, tooLongOf, appendedOf, receivedOf, noEnd, isValid}
 use Rattle.queue.proofs.Cases.{added-fits, added-full, received-dropped, received-ends, received-added}
 use Rattle.queue.proofs.Waiting.{waiting-more, no-end-more}
 use Rattle.queue.proofs.Valid.{facts, test}
@@ -50,6 +50,6 @@ module _ (q : Queue) (port : ℕ) (k : isValid q port ≡ true) where
   pub received-keeps : (b : ℕ) (mark : Bool) → length (q .bytes) ≡ lineLimit → isValid (receivedOf q port b mark .queue) port ≡ true
   received-keeps b mark long =
       split (q .discarding)
-      (λ d. rw (received-dropped q port b mark d) (dropped-keeps (endsLine port b || isMarked port mark) d))
+      (λ d. rw (received-dropped q port b mark d) (dropped-keeps (isEnd port b mark) d))
       (λ d. split (endsLine port b) (λ e. rw (received-ends q port b mark d e) k)
       (λ e. rw (received-added q port b mark d e) (added-keeps b long d e (isMarked port mark))))

@@ -51,6 +51,10 @@ endsLine port b = eqb b lf || (eqb port rs232 && eqb b cr)
 unfoldable pub isMarked : ℕ → Bool → Bool
 isMarked port mark = not (eqb port rs232) && mark
 
+-- §2.1: whether a byte ends a line, by itself or by its end mark
+abbrev pub isEnd : ℕ → ℕ → Bool → Bool
+isEnd port b mark = endsLine port b || isMarked port mark
+
 -- §2.2: the queue after a byte, and what the byte ends
 pub record Received : Type 0 where
   pub queue : Queue
@@ -74,7 +78,7 @@ appendedOf q b marked =
 -- §2.1, §2.2 and §2.3: any byte: one that ends a line by itself is no part of it, and its end mark ends no second line
 unfoldable pub receivedOf : Queue → ℕ → ℕ → Bool → Received
 receivedOf q port b mark =
-    cond (q .discarding) (droppedOf q (endsLine port b || isMarked port mark))
+    cond (q .discarding) (droppedOf q (isEnd port b mark))
     (cond (endsLine port b) (record { queue = q; ending = Line }) (appendedOf q b (isMarked port mark)))
 
 -- §12.11: whether no byte of these ends a line

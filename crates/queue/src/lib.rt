@@ -4,7 +4,7 @@ ghost use mathlib.Core.Bool.{true, false};
 ghost use Prim.Native.Nat.{_+_, _≤_, min};
 ghost use lib.ListN.{length, take, drop};
 ghost use Rattle.queue.specs.Queue.{lineLimit, emptyQueue, endsLine, isMarked, appendedOf, receivedOf};
-ghost use Rattle.queue.specs.Queue.{noEnd, isValid};
+ghost use Rattle.queue.specs.Queue.{isEnd, noEnd, isValid};
 ghost use Rattle.queue.specs.Parts.{queueOf, bytesWith, Describes, block, EndNone};
 use line_text::LINE;
 
@@ -88,6 +88,13 @@ fn is_marked(port: u8, mark: bool) -> bool
         return mark;
     }
     false
+}
+
+// Whether a byte ends a line, by itself or by its end mark.
+pub fn is_end(port: u8, b: u8, mark: bool) -> bool
+    ensures { λ r. ⌜ r ≡ isEnd port b mark ⌝ }
+{
+    ends_line(port, b) | is_marked(port, mark)
 }
 
 // A byte that ends no line by itself, after `len` bytes: the line's last one where it is marked.
