@@ -26,6 +26,7 @@ pub mod compare;
 pub mod dump;
 pub mod field;
 pub mod met;
+pub mod runs;
 mod session;
 pub mod shrink;
 
@@ -47,6 +48,7 @@ pub enum Operation {
     Start { serial: u32, port: u32, lengths: [usize; 2] },
     Line { line: Vec<u8>, room: usize },
     Byte { byte: u8, end_mark: bool, room: usize },
+    Run { bytes: Vec<u8>, end_mark: bool, room: usize },
     Pair([u32; 2]),
     Tick,
     Trigger,
@@ -72,11 +74,12 @@ impl Operation {
                 lengths: [length(first, MOST_LENGTH)?, length(second, MOST_LENGTH)?],
             },
             ["line", line, room] => Operation::Line { line: bytes(line)?, room: length(room, MOST_ROOM)? },
-            ["byte", byte, mark, room] => Operation::Byte {
-                byte: digits(byte, 2)? as u8,
-                end_mark: number(mark, 1)? == 1,
-                room: length(room, MOST_ROOM)?,
-            },
+            ["byte", byte, mark, room] => {
+                Operation::Byte { byte: digits(byte, 2)? as u8, end_mark: flag(mark)?, room: length(room, MOST_ROOM)? }
+            }
+            ["run", run, mark, room] => {
+                Operation::Run { bytes: bytes(run)?, end_mark: flag(mark)?, room: length(room, MOST_ROOM)? }
+            }
             ["pair", first, second] => Operation::Pair([digits(first, 8)?, digits(second, 8)?]),
             ["tick"] => Operation::Tick,
             ["trigger"] => Operation::Trigger,
@@ -109,6 +112,9 @@ impl fmt::Display for Operation {
             }
             Operation::Line { line, room } => write!(f, "line {} {room}", hex::field(line)),
             Operation::Byte { byte, end_mark, room } => write!(f, "byte {byte:02x} {} {room}", u8::from(*end_mark)),
+            Operation::Run { bytes, end_mark, room } => {
+                write!(f, "run {} {} {room}", hex::field(bytes), u8::from(*end_mark))
+            }
             Operation::Pair([first, second]) => write!(f, "pair {first:08x} {second:08x}"),
             Operation::Tick => write!(f, "tick"),
             Operation::Trigger => write!(f, "trigger"),
@@ -133,6 +139,11 @@ fn number(text: &str, most: u32) -> Option<u32> {
 
 fn length(text: &str, most: usize) -> Option<usize> {
     number(text, most as u32).map(|value| value as usize)
+}
+
+/// Whether a number of 0 or 1 is 1.
+fn flag(text: &str) -> Option<bool> {
+    number(text, 1).map(|value| value == 1)
 }
 
 /// The value of exactly `count` hex digits.
@@ -161,6 +172,8 @@ mod tests {
             "line 2a49444e3f 40",
             "line - 131072",
             "byte 0a 1 0",
+            "run 484152 0 131072",
+            "run - 1 0",
             "pair 00ec8000 ffffffff",
             "tick",
             "trigger",
@@ -179,6 +192,8 @@ mod tests {
         }
         assert_eq!(Operation::read(b"measured 000000000000000000007"), Some(Operation::Measured(7)));
         assert_eq!(Operation::read(b"byte ff 00 00"), Some(Operation::Byte { byte: 255, end_mark: false, room: 0 }));
+        let run = Operation::Run { bytes: vec![255], end_mark: true, room: 7 };
+        assert_eq!(Operation::read(b"run ff 01 007"), Some(run));
     }
 
     #[test]
@@ -209,6 +224,15 @@ mod tests {
             "byte 0a0 0 4",
             "byte 0a 2 4",
             "byte - 0 4",
+            "run 0a 2 4",
+            "run 0a 0 131073",
+            "run 0a 4",
+            "run 0a 0 4 4",
+            "run 0 0 4",
+            "run 0A 0 4",
+            "run  0 4",
+            "run -0a 0 4",
+            "runs 0a 0 4",
             "pair 0 0",
             "pair 00000000 0000000",
             "pair 00000000 0000000G",

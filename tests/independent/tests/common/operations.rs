@@ -5,7 +5,9 @@ use super::scratch::Scratch;
 use super::{counts, ops};
 use independent::ops::compare::{first_difference, lines, report};
 use independent::ops::met::{met, Met, ALTER, CALLS};
+use independent::ops::runs::kinds;
 use independent::ops::Operation;
+use std::collections::BTreeMap;
 use std::path::Path;
 
 /// The seconds in which a short stream that shows a difference is looked for.
@@ -17,6 +19,8 @@ pub struct Agreed {
     pub answers: usize,
     /// The alterations, and the calls refused by 11.
     pub met: Met,
+    /// The runs of each kind.
+    pub runs: BTreeMap<&'static str, usize>,
 }
 
 impl Agreed {
@@ -25,6 +29,9 @@ impl Agreed {
         self.answers += other.answers;
         for (call, times) in other.met {
             *self.met.entry(call).or_default() += times;
+        }
+        for (kind, times) in other.runs {
+            *self.runs.entry(kind).or_default() += times;
         }
         self
     }
@@ -35,6 +42,15 @@ impl Agreed {
         for word in [ALTER].into_iter().chain(CALLS) {
             let times = self.met.iter().filter(|((call, _), _)| *call == word).map(|(_, times)| times);
             counts::say_in_all(times.sum(), word);
+        }
+    }
+
+    /// Fails the test where some kind of runs did not come up, and prints how many there are of each.
+    pub fn say_runs(&self) {
+        assert!(!self.runs.is_empty(), "runs are not counted");
+        for (kind, times) in &self.runs {
+            assert!(*times > 0, "there are no runs that {kind}");
+            counts::say(*times, kind);
         }
     }
 }
@@ -66,7 +82,8 @@ pub fn compare_and_give(title: &str, operations: &[u8]) -> (Agreed, Vec<u8>) {
     });
     assert_ended_well(title, &program, &output);
     let met = met(&asked, &given);
-    (Agreed { answers, met }, output.stdout)
+    let runs = kinds(&asked, &given).into_iter().collect();
+    (Agreed { answers, met, runs }, output.stdout)
 }
 
 /// A short stream of operations that a program answers differently, and both answers to its last one.
