@@ -17,9 +17,12 @@ struct Run<'a> {
 /// A kind of runs in words, and which are of that kind.
 type Kind = (&'static str, fn(&Run) -> bool);
 
+/// How many kinds there are.
+const COUNT: usize = 13;
+
 /// The kinds that are counted.
-const KINDS: [Kind; 13] = [
-    ("runs", |_| true),
+const KINDS: [Kind; COUNT] = [
+    ("are runs", |_| true),
     ("stop", |run| run.is_admitted() && run.taken < run.bytes.len()),
     ("go on with the rest of one that stopped", |run| {
         !run.rest_before.is_empty() && run.bytes.starts_with(run.rest_before) && run.is_admitted()
@@ -54,21 +57,29 @@ impl Run<'_> {
     }
 }
 
-/// How many runs there are of each kind, in a fixed order.
-pub fn kinds(operations: &[&[u8]], answers: &[&[u8]]) -> Vec<(&'static str, usize)> {
-    let mut kinds = KINDS.map(|(words, _)| (words, 0));
+/// How many runs there are of each kind.
+pub type Counts = [usize; COUNT];
+
+/// Counts with what their runs do, in words.
+pub fn with_words(counts: Counts) -> impl Iterator<Item = (usize, &'static str)> {
+    counts.into_iter().zip(KINDS.map(|(words, _)| words))
+}
+
+/// What the answers to operations show.
+pub fn counts(operations: &[&[u8]], answers: &[&[u8]]) -> Counts {
+    let mut counts = Counts::default();
     let mut rest = Vec::new();
     let asked = operations.iter().filter(|text| !text.is_empty());
     for (text, answer) in asked.zip(answers) {
         let Some(Operation::Run { bytes, end_mark, .. }) = Operation::read(text) else { continue };
         let [taken, refusal, line] = numbers(answer);
         let run = Run { bytes: &bytes, end_mark, taken, refusal, line, rest_before: &rest };
-        for ((_, times), (_, is_of_kind)) in kinds.iter_mut().zip(KINDS) {
-            *times += usize::from(is_of_kind(&run));
+        for (count, (_, is_of_kind)) in counts.iter_mut().zip(KINDS) {
+            *count += usize::from(is_of_kind(&run));
         }
         rest = bytes[taken.min(bytes.len())..].to_vec();
     }
-    kinds.to_vec()
+    counts
 }
 
 /// The bytes taken, the refusal and its line, of a run's answer.
@@ -95,8 +106,7 @@ mod tests {
         ]
         .concat();
         let answers = Session::new().answers(&operations);
-        let found = kinds(&lines(&operations), &lines(answers.as_bytes()));
-        let times: Vec<usize> = found.iter().map(|(_, times)| *times).collect();
-        assert_eq!(times, [11, 3, 2, 1, 3, 1, 1, 2, 1, 1, 1, 1, 1], "{found:?}\n{answers}");
+        let found = counts(&lines(&operations), &lines(answers.as_bytes()));
+        assert_eq!(found, [11, 3, 2, 1, 3, 1, 1, 2, 1, 1, 1, 1, 1], "{answers}");
     }
 }

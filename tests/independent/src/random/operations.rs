@@ -297,7 +297,10 @@ fn alter(generator: &mut Generator, session: &Session) -> Vec<Operation> {
     if generator.chance(50) {
         operations.push(Operation::Line { line: queries.join(";").into_bytes(), room: 64 });
     }
-    for _ in 0..1 + generator.below(6) {
+    if generator.chance(50) {
+        operations.push(runs::one(generator, &session.module));
+    }
+    for _ in 0..1 + generator.below(7) {
         operations.push(call(generator, session));
     }
     if generator.chance(85) {
@@ -337,7 +340,7 @@ fn check(generator: &mut Generator) -> Operation {
 #[cfg(test)]
 mod tests {
     use super::*;
-    use crate::ops::runs::kinds;
+    use crate::ops::runs::{counts, with_words};
 
     #[test]
     fn the_same_seed_gives_the_same_operations() {
@@ -392,9 +395,9 @@ mod tests {
         let answers: Vec<String> = operations.iter().filter_map(|text| session.answer(text)).collect();
         let operations: Vec<&[u8]> = operations.iter().map(Vec::as_slice).collect();
         let answers: Vec<&[u8]> = answers.iter().map(String::as_bytes).collect();
-        for (kind, found) in kinds(&operations, &answers) {
+        for (found, kind) in with_words(counts(&operations, &answers)) {
             let least = match kind {
-                "runs" => 900,
+                "are runs" => 900,
                 "stop" | "end within a line" | "go on with the rest of one that stopped" => 100,
                 "are refused by 9" | "meet 5 in a later line" | "stop before a marked byte" => 3,
                 _ => 20,

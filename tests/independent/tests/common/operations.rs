@@ -5,9 +5,8 @@ use super::scratch::Scratch;
 use super::{counts, ops};
 use independent::ops::compare::{first_difference, lines, report};
 use independent::ops::met::{met, Met, ALTER, CALLS};
-use independent::ops::runs::kinds;
+use independent::ops::runs;
 use independent::ops::Operation;
-use std::collections::BTreeMap;
 use std::path::Path;
 
 /// The seconds in which a short stream that shows a difference is looked for.
@@ -20,7 +19,7 @@ pub struct Agreed {
     /// The alterations, and the calls refused by 11.
     pub met: Met,
     /// The runs of each kind.
-    pub runs: BTreeMap<&'static str, usize>,
+    pub runs: runs::Counts,
 }
 
 impl Agreed {
@@ -30,8 +29,8 @@ impl Agreed {
         for (call, times) in other.met {
             *self.met.entry(call).or_default() += times;
         }
-        for (kind, times) in other.runs {
-            *self.runs.entry(kind).or_default() += times;
+        for (count, more) in self.runs.iter_mut().zip(other.runs) {
+            *count += more;
         }
         self
     }
@@ -47,10 +46,9 @@ impl Agreed {
 
     /// Fails the test where some kind of runs did not come up, and prints how many there are of each.
     pub fn say_runs(&self) {
-        assert!(!self.runs.is_empty(), "runs are not counted");
-        for (kind, times) in &self.runs {
-            assert!(*times > 0, "there are no runs that {kind}");
-            counts::say(*times, kind);
+        for (count, words) in runs::with_words(self.runs) {
+            assert!(count > 0, "of the runs none {words}");
+            counts::say(count, words);
         }
     }
 }
@@ -82,7 +80,7 @@ pub fn compare_and_give(title: &str, operations: &[u8]) -> (Agreed, Vec<u8>) {
     });
     assert_ended_well(title, &program, &output);
     let met = met(&asked, &given);
-    let runs = kinds(&asked, &given).into_iter().collect();
+    let runs = runs::counts(&asked, &given);
     (Agreed { answers, met, runs }, output.stdout)
 }
 
