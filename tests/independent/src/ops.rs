@@ -62,6 +62,7 @@ pub enum Operation {
 }
 
 impl Operation {
+    /// The operation of a text; nothing where it is none.
     pub fn read(text: &[u8]) -> Option<Operation> {
         if text.len() > MOST_OPERATION_BYTES {
             return None;
@@ -90,10 +91,7 @@ impl Operation {
                 slot: number(slot, u32::MAX)? as usize,
                 word: digits(word, 8)?,
             },
-            ["alter", name, value] => {
-                let field = Field::named(name)?;
-                Operation::Alter { field, value: field.read(value)? }
-            }
+            ["alter", name, value] => alteration(name, value)?,
             ["dump"] => Operation::Dump,
             ["poll"] => Operation::Poll,
             ["check", capacity, script] => {
@@ -127,6 +125,12 @@ impl fmt::Display for Operation {
             Operation::Check { capacity, script } => write!(f, "check {capacity} {}", hex::field(script)),
         }
     }
+}
+
+/// A field of the state and a value that it holds.
+fn alteration(name: &str, value: &str) -> Option<Operation> {
+    let field = Field::named(name)?;
+    Some(Operation::Alter { field, value: field.read(value)? })
 }
 
 /// A number of at most `most`.
@@ -164,6 +168,71 @@ fn bytes(text: &str) -> Option<Vec<u8>> {
 mod tests {
     use super::*;
 
+    /// Texts that are no operations.
+    const NO_OPERATIONS: &[&str] = &[
+        "dump ",
+        " dump",
+        "dump\r",
+        "Dump",
+        "dump 1",
+        "poll 1",
+        "tick\t",
+        "start 1 1 4",
+        "start 1 1 4 4 4",
+        "start 1  4 4",
+        "start 1 1 16385 4",
+        "start 4294967296 1 4 4",
+        "start +1 1 4 4",
+        "start -1 1 4 4",
+        "line 2A 4",
+        "line 2 4",
+        "line  4",
+        "line 2a4",
+        "line 2a 131073",
+        "line 2a4g 4",
+        "line -- 4",
+        "byte a 0 4",
+        "byte 0a0 0 4",
+        "byte 0a 2 4",
+        "byte - 0 4",
+        "run 0a 2 4",
+        "run 0a 0 131073",
+        "run 0a 4",
+        "run 0a 0 4 4",
+        "run 0 0 4",
+        "run 0A 0 4",
+        "run  0 4",
+        "run -0a 0 4",
+        "runs 0a 0 4",
+        "pair 0 0",
+        "pair 00000000 0000000",
+        "pair 00000000 0000000G",
+        "measured",
+        "measured 4294967296",
+        "measured 1.0",
+        "raise 256 0",
+        "raise 0",
+        "poke 0 0 00000000",
+        "poke 3 0 00000000",
+        "poke 1 4294967296 00000000",
+        "alter",
+        "alter ",
+        "alter harm",
+        "alter harm ",
+        "alter  harm 1",
+        "alter harm 1 1",
+        "alter ddef 1",
+        "alter t1 00000000",
+        "alter HARM 1",
+        "alter harm 1.0",
+        "alter harm 4294967296",
+        "check 4",
+        "check x 2a",
+        "?",
+        "\u{663}",
+    ];
+
+    /// The text of an operation is the one that it was read from; leading zeros are no part of it.
     #[test]
     fn operations_are_read_as_written() {
         for text in [
@@ -196,70 +265,10 @@ mod tests {
         assert_eq!(Operation::read(b"run ff 01 007"), Some(run));
     }
 
+    /// A text with anything about its word, the number of its fields or a field that is not as it should be.
     #[test]
     fn texts_that_are_no_operations() {
-        for text in [
-            "dump ",
-            " dump",
-            "dump\r",
-            "Dump",
-            "dump 1",
-            "poll 1",
-            "tick\t",
-            "start 1 1 4",
-            "start 1 1 4 4 4",
-            "start 1  4 4",
-            "start 1 1 16385 4",
-            "start 4294967296 1 4 4",
-            "start +1 1 4 4",
-            "start -1 1 4 4",
-            "line 2A 4",
-            "line 2 4",
-            "line  4",
-            "line 2a4",
-            "line 2a 131073",
-            "line 2a4g 4",
-            "line -- 4",
-            "byte a 0 4",
-            "byte 0a0 0 4",
-            "byte 0a 2 4",
-            "byte - 0 4",
-            "run 0a 2 4",
-            "run 0a 0 131073",
-            "run 0a 4",
-            "run 0a 0 4 4",
-            "run 0 0 4",
-            "run 0A 0 4",
-            "run  0 4",
-            "run -0a 0 4",
-            "runs 0a 0 4",
-            "pair 0 0",
-            "pair 00000000 0000000",
-            "pair 00000000 0000000G",
-            "measured",
-            "measured 4294967296",
-            "measured 1.0",
-            "raise 256 0",
-            "raise 0",
-            "poke 0 0 00000000",
-            "poke 3 0 00000000",
-            "poke 1 4294967296 00000000",
-            "alter",
-            "alter ",
-            "alter harm",
-            "alter harm ",
-            "alter  harm 1",
-            "alter harm 1 1",
-            "alter ddef 1",
-            "alter t1 00000000",
-            "alter HARM 1",
-            "alter harm 1.0",
-            "alter harm 4294967296",
-            "check 4",
-            "check x 2a",
-            "?",
-            "\u{663}",
-        ] {
+        for text in NO_OPERATIONS {
             assert_eq!(Operation::read(text.as_bytes()), None, "{text:?}");
         }
         assert_eq!(Operation::read(b"dump\xff"), None);

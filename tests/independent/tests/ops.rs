@@ -17,8 +17,8 @@ use std::sync::mpsc;
 use std::thread;
 use std::time::Duration;
 
-/// Seeds of random operations, and how many of each: a little over 25,000 and some runs, for some lines are empty and get
-/// no answer.
+/// Seeds of random operations, and how many of each: over 1,500 runs and 25,000 others, though some lines are empty and
+/// get no answer.
 const OPERATION_SEEDS: [u64; 12] = [1, 2, 3, 4, 5, 6, 7, 8, 9, 10, 11, 12];
 const OPERATIONS_PER_SEED: usize = 28_600;
 

@@ -24,6 +24,7 @@ fn queue(module: &Module) -> String {
     String::from_utf8(module.input.queue.clone()).unwrap()
 }
 
+/// What a stop leaves waiting is done by the next run.
 #[test]
 fn replies_are_joined_and_a_line_that_does_not_fit_stops_the_run() {
     let mut module = fresh(1);
@@ -34,6 +35,7 @@ fn replies_are_joined_and_a_line_that_does_not_fit_stops_the_run() {
     assert_eq!(told(&mut module, "/HARM?/", false, 24), "7 0 0 0 12 1000.0000/1/~~~~~~~~~~~~");
 }
 
+/// Its length is 0, so that the next replies go over what it has left in the room.
 #[test]
 fn the_first_line_to_end_meets_4_and_the_run_goes_on() {
     let mut module = fresh(1);
@@ -44,6 +46,7 @@ fn the_first_line_to_end_meets_4_and_the_run_goes_on() {
     assert_eq!(told(&mut fresh(1), "PHAS?;*IDN?/HARM?/", false, 6), "18 4 1 2 2 1/00/~");
 }
 
+/// So a line behind it stops the run, and is itself the first to end in the next one.
 #[test]
 fn an_empty_line_is_the_first_to_end() {
     let mut module = fresh(1);
@@ -51,6 +54,7 @@ fn an_empty_line_is_the_first_to_end() {
     assert_eq!(told(&mut module, "/", false, 3), "1 4 1 1 0 ~~~");
 }
 
+/// Neither its refusals' bits nor its settings and points are there before its end is taken.
 #[test]
 fn a_line_with_another_refusal_before_4_stops_too_and_does_nothing() {
     assert_eq!(told(&mut fresh(1), "FOO;*IDN?/FOO;*IDN?/", false, 3), "19 1 1 1 0 ~~~");
@@ -61,6 +65,7 @@ fn a_line_with_another_refusal_before_4_stops_too_and_does_nothing() {
     assert_eq!(module, expected);
 }
 
+/// They are told at byte 257; their end is one line's end, also where byte 257 is marked.
 #[test]
 fn lines_over_256_bytes_count_once() {
     let mut module = fresh(1);
@@ -74,6 +79,7 @@ fn lines_over_256_bytes_count_once() {
     assert_eq!(told(&mut module, "/*IDN?/", false, 4), "6 0 0 0 0 ~~~~");
 }
 
+/// It is not taken where that byte is not, and is nothing where there is no byte.
 #[test]
 fn the_mark_belongs_to_the_last_byte() {
     let mut module = fresh(1);
@@ -85,6 +91,7 @@ fn the_mark_belongs_to_the_last_byte() {
     assert_eq!(queue(&module), "PH");
 }
 
+/// CR LF is a line's end and an empty line.
 #[test]
 fn both_of_cr_and_lf_end_a_line_on_rs232_and_the_mark_none() {
     let mut module = fresh(0);

@@ -101,6 +101,7 @@ fn drops_the_rest(module: &Module, line: &[u8], room: usize) -> Option<bool> {
     (line.len() + 7 <= MOST_LINE_BYTES).then(|| !is_done(7) || !is_done(8))
 }
 
+/// In room enough it is done, whatever else is refused; where 4 drops the rest it is not.
 #[test]
 fn a_command_behind_a_line_shows_whether_4_drops_the_rest() {
     let module = Module::start(42, 1, [4; 2]).unwrap();
