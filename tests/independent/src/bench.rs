@@ -19,6 +19,38 @@ pub fn bench(input: impl Read, output: &mut impl Write) -> io::Result<()> {
 #[cfg(test)]
 mod tests {
     use super::*;
+    use crate::random::bench::queries;
+
+    /// The bytes of a run, and the room of its replies.
+    const CHUNK: usize = 65_536;
+    const ROOM: usize = 8_192;
+
+    /// The replies to runs, each gone on with where it stops, and how often one stops.
+    fn replies_to_runs(input: &[u8]) -> (Vec<u8>, usize) {
+        let mut module = Module::start(SERIAL, GPIB, [CAPACITY; 2]).expect("a lawful start");
+        let mut room = [0; ROOM];
+        let (mut replies, mut stops) = (Vec::new(), 0);
+        for mut chunk in input.chunks(CHUNK) {
+            while !chunk.is_empty() {
+                let answer = module.run(chunk, false, &mut room);
+                replies.extend(&room[..answer.length]);
+                chunk = &chunk[answer.taken..];
+                stops += usize::from(!chunk.is_empty());
+            }
+        }
+        (replies, stops)
+    }
+
+    /// Replies many times as long as the room are those to single bytes.
+    #[test]
+    fn runs_reply_as_single_bytes_do() {
+        let input = queries(4, 3 * CHUNK);
+        let mut singly = Vec::new();
+        bench(&input[..], &mut singly).unwrap();
+        let (replies, stops) = replies_to_runs(&input);
+        assert!(replies == singly, "the replies differ");
+        assert!(stops > 20, "{stops} stops");
+    }
 
     #[test]
     fn worked_example() {

@@ -6,6 +6,7 @@ pub mod line;
 mod perform;
 pub mod port;
 mod query;
+pub mod run;
 pub mod state;
 pub mod status;
 pub mod storage;

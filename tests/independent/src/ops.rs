@@ -26,6 +26,7 @@ pub mod compare;
 pub mod dump;
 pub mod field;
 pub mod met;
+pub mod runs;
 mod session;
 pub mod shrink;
 
@@ -47,6 +48,7 @@ pub enum Operation {
     Start { serial: u32, port: u32, lengths: [usize; 2] },
     Line { line: Vec<u8>, room: usize },
     Byte { byte: u8, end_mark: bool, room: usize },
+    Run { bytes: Vec<u8>, end_mark: bool, room: usize },
     Pair([u32; 2]),
     Tick,
     Trigger,
@@ -60,6 +62,7 @@ pub enum Operation {
 }
 
 impl Operation {
+    /// The operation of a text; nothing where it is none.
     pub fn read(text: &[u8]) -> Option<Operation> {
         if text.len() > MOST_OPERATION_BYTES {
             return None;
@@ -72,11 +75,12 @@ impl Operation {
                 lengths: [length(first, MOST_LENGTH)?, length(second, MOST_LENGTH)?],
             },
             ["line", line, room] => Operation::Line { line: bytes(line)?, room: length(room, MOST_ROOM)? },
-            ["byte", byte, mark, room] => Operation::Byte {
-                byte: digits(byte, 2)? as u8,
-                end_mark: number(mark, 1)? == 1,
-                room: length(room, MOST_ROOM)?,
-            },
+            ["byte", byte, mark, room] => {
+                Operation::Byte { byte: digits(byte, 2)? as u8, end_mark: flag(mark)?, room: length(room, MOST_ROOM)? }
+            }
+            ["run", run, mark, room] => {
+                Operation::Run { bytes: bytes(run)?, end_mark: flag(mark)?, room: length(room, MOST_ROOM)? }
+            }
             ["pair", first, second] => Operation::Pair([digits(first, 8)?, digits(second, 8)?]),
             ["tick"] => Operation::Tick,
             ["trigger"] => Operation::Trigger,
@@ -87,10 +91,7 @@ impl Operation {
                 slot: number(slot, u32::MAX)? as usize,
                 word: digits(word, 8)?,
             },
-            ["alter", name, value] => {
-                let field = Field::named(name)?;
-                Operation::Alter { field, value: field.read(value)? }
-            }
+            ["alter", name, value] => alteration(name, value)?,
             ["dump"] => Operation::Dump,
             ["poll"] => Operation::Poll,
             ["check", capacity, script] => {
@@ -109,6 +110,9 @@ impl fmt::Display for Operation {
             }
             Operation::Line { line, room } => write!(f, "line {} {room}", hex::field(line)),
             Operation::Byte { byte, end_mark, room } => write!(f, "byte {byte:02x} {} {room}", u8::from(*end_mark)),
+            Operation::Run { bytes, end_mark, room } => {
+                write!(f, "run {} {} {room}", hex::field(bytes), u8::from(*end_mark))
+            }
             Operation::Pair([first, second]) => write!(f, "pair {first:08x} {second:08x}"),
             Operation::Tick => write!(f, "tick"),
             Operation::Trigger => write!(f, "trigger"),
@@ -123,6 +127,12 @@ impl fmt::Display for Operation {
     }
 }
 
+/// A field of the state and a value that it holds.
+fn alteration(name: &str, value: &str) -> Option<Operation> {
+    let field = Field::named(name)?;
+    Some(Operation::Alter { field, value: field.read(value)? })
+}
+
 /// A number of at most `most`.
 fn number(text: &str, most: u32) -> Option<u32> {
     if text.is_empty() || !text.bytes().all(|byte| byte.is_ascii_digit()) {
@@ -133,6 +143,11 @@ fn number(text: &str, most: u32) -> Option<u32> {
 
 fn length(text: &str, most: usize) -> Option<usize> {
     number(text, most as u32).map(|value| value as usize)
+}
+
+/// Whether a number of 0 or 1 is 1.
+fn flag(text: &str) -> Option<bool> {
+    number(text, 1).map(|value| value == 1)
 }
 
 /// The value of exactly `count` hex digits.
@@ -153,6 +168,71 @@ fn bytes(text: &str) -> Option<Vec<u8>> {
 mod tests {
     use super::*;
 
+    /// Texts that are no operations.
+    const NO_OPERATIONS: &[&str] = &[
+        "dump ",
+        " dump",
+        "dump\r",
+        "Dump",
+        "dump 1",
+        "poll 1",
+        "tick\t",
+        "start 1 1 4",
+        "start 1 1 4 4 4",
+        "start 1  4 4",
+        "start 1 1 16385 4",
+        "start 4294967296 1 4 4",
+        "start +1 1 4 4",
+        "start -1 1 4 4",
+        "line 2A 4",
+        "line 2 4",
+        "line  4",
+        "line 2a4",
+        "line 2a 131073",
+        "line 2a4g 4",
+        "line -- 4",
+        "byte a 0 4",
+        "byte 0a0 0 4",
+        "byte 0a 2 4",
+        "byte - 0 4",
+        "run 0a 2 4",
+        "run 0a 0 131073",
+        "run 0a 4",
+        "run 0a 0 4 4",
+        "run 0 0 4",
+        "run 0A 0 4",
+        "run  0 4",
+        "run -0a 0 4",
+        "runs 0a 0 4",
+        "pair 0 0",
+        "pair 00000000 0000000",
+        "pair 00000000 0000000G",
+        "measured",
+        "measured 4294967296",
+        "measured 1.0",
+        "raise 256 0",
+        "raise 0",
+        "poke 0 0 00000000",
+        "poke 3 0 00000000",
+        "poke 1 4294967296 00000000",
+        "alter",
+        "alter ",
+        "alter harm",
+        "alter harm ",
+        "alter  harm 1",
+        "alter harm 1 1",
+        "alter ddef 1",
+        "alter t1 00000000",
+        "alter HARM 1",
+        "alter harm 1.0",
+        "alter harm 4294967296",
+        "check 4",
+        "check x 2a",
+        "?",
+        "\u{663}",
+    ];
+
+    /// The text of an operation is the one that it was read from; leading zeros are no part of it.
     #[test]
     fn operations_are_read_as_written() {
         for text in [
@@ -161,6 +241,8 @@ mod tests {
             "line 2a49444e3f 40",
             "line - 131072",
             "byte 0a 1 0",
+            "run 484152 0 131072",
+            "run - 1 0",
             "pair 00ec8000 ffffffff",
             "tick",
             "trigger",
@@ -179,63 +261,14 @@ mod tests {
         }
         assert_eq!(Operation::read(b"measured 000000000000000000007"), Some(Operation::Measured(7)));
         assert_eq!(Operation::read(b"byte ff 00 00"), Some(Operation::Byte { byte: 255, end_mark: false, room: 0 }));
+        let run = Operation::Run { bytes: vec![255], end_mark: true, room: 7 };
+        assert_eq!(Operation::read(b"run ff 01 007"), Some(run));
     }
 
+    /// A text with anything about its word, the number of its fields or a field that is not as it should be.
     #[test]
     fn texts_that_are_no_operations() {
-        for text in [
-            "dump ",
-            " dump",
-            "dump\r",
-            "Dump",
-            "dump 1",
-            "poll 1",
-            "tick\t",
-            "start 1 1 4",
-            "start 1 1 4 4 4",
-            "start 1  4 4",
-            "start 1 1 16385 4",
-            "start 4294967296 1 4 4",
-            "start +1 1 4 4",
-            "start -1 1 4 4",
-            "line 2A 4",
-            "line 2 4",
-            "line  4",
-            "line 2a4",
-            "line 2a 131073",
-            "line 2a4g 4",
-            "line -- 4",
-            "byte a 0 4",
-            "byte 0a0 0 4",
-            "byte 0a 2 4",
-            "byte - 0 4",
-            "pair 0 0",
-            "pair 00000000 0000000",
-            "pair 00000000 0000000G",
-            "measured",
-            "measured 4294967296",
-            "measured 1.0",
-            "raise 256 0",
-            "raise 0",
-            "poke 0 0 00000000",
-            "poke 3 0 00000000",
-            "poke 1 4294967296 00000000",
-            "alter",
-            "alter ",
-            "alter harm",
-            "alter harm ",
-            "alter  harm 1",
-            "alter harm 1 1",
-            "alter ddef 1",
-            "alter t1 00000000",
-            "alter HARM 1",
-            "alter harm 1.0",
-            "alter harm 4294967296",
-            "check 4",
-            "check x 2a",
-            "?",
-            "\u{663}",
-        ] {
+        for text in NO_OPERATIONS {
             assert_eq!(Operation::read(text.as_bytes()), None, "{text:?}");
         }
         assert_eq!(Operation::read(b"dump\xff"), None);

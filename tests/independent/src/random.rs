@@ -9,6 +9,7 @@ pub mod generator;
 mod lines;
 mod near;
 pub mod operations;
+mod runs;
 pub mod scripts;
 mod settings;
 mod spelling;

@@ -6,10 +6,31 @@ mod common;
 use common::running::{shown, written, Limits, SECONDS_PER_RUN, SMALL_STACK_KIB};
 use common::{counts, example};
 use independent::random;
+use std::io::{Read, Write};
+use std::process::{Command, Stdio};
+use std::sync::mpsc;
+use std::thread;
+use std::time::Duration;
 
 /// Seeds of random lines, and how many of each.
 const SEEDS: [u64; 4] = [1, 2, 3, 4];
 const LINES_PER_SEED: usize = 2_000;
+
+/// Seeds of lines with many queries, and how many bytes of each: several times what is read at once, with replies many
+/// times as long as the room for them.
+const QUERY_SEEDS: [u64; 3] = [1, 2, 3];
+const QUERY_BYTES: usize = 250_000;
+
+/// The pieces in which a session comes in, each with the replies to it, which come before the next piece is sent.
+const SESSION: [(&[u8], &[u8]); 4] = [
+    (b"*IDN?\nPH", b"LOCKIN,M1,s/n00042,ver1.000\n"),
+    (b"AS 541;PHAS?\n", b"-179.00\n"),
+    (b"HARM?\nHARM 2;HARM?\nHARM 3;HARM", b"1\n2\n"),
+    (b"?\n*ESR?", b"3\n"),
+];
+
+/// The time in which a piece is replied to.
+const TIME_TO_REPLY: Duration = Duration::from_secs(10);
 
 /// What a run of the bench program may take.
 const LIMITS: Limits = Limits { seconds: SECONDS_PER_RUN, stack_kib: Some(SMALL_STACK_KIB) };
@@ -38,6 +59,45 @@ fn bench_replies_to_random_lines_alike_within_a_small_stack() {
         compare(&format!("seed {seed}"), &input, &own_replies(&input))
     });
     counts::say(compared.into_iter().sum(), "reply bytes agree");
+}
+
+/// Lines of many queries: what is read at once has more replies than the room holds, so that each has to be written
+/// before the next ones find room.
+#[test]
+fn bench_replies_to_many_queries_alike_within_a_small_stack() {
+    let compared = QUERY_SEEDS.map(|seed| {
+        let input = random::bench::queries(seed, QUERY_BYTES);
+        compare(&format!("queries, seed {seed}"), &input, &own_replies(&input))
+    });
+    counts::say(compared.into_iter().sum(), "reply bytes agree");
+}
+
+/// Bytes are replied to as they come in, also where a line comes in pieces.
+#[test]
+fn bench_replies_to_a_line_before_the_next_comes() {
+    let program = common::bench();
+    let mut session = Command::new(&program).stdin(Stdio::piped()).stdout(Stdio::piped()).spawn().expect("it runs");
+    let mut input = session.stdin.take().expect("a pipe");
+    let mut output = session.stdout.take().expect("a pipe");
+    let (sender, receiver) = mpsc::channel();
+    thread::spawn(move || {
+        for (_, expected) in SESSION {
+            let mut replies = vec![0; expected.len()];
+            let read = output.read_exact(&mut replies);
+            let _ = sender.send(read.map(|()| replies));
+        }
+    });
+    for (piece, expected) in SESSION {
+        input.write_all(piece).expect("it takes a piece");
+        let Ok(replies) = receiver.recv_timeout(TIME_TO_REPLY) else {
+            session.kill().expect("it was running");
+            panic!("{} does not reply to {} at once", program.display(), shown(piece));
+        };
+        assert_eq!(shown(&replies.expect("it replies")), shown(expected), "the replies to {}", shown(piece));
+    }
+    drop(input);
+    let status = session.wait().expect("it ends");
+    assert!(status.success(), "{} ended with {status}", program.display());
 }
 
 /// The replies of the independent program.

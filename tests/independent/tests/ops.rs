@@ -17,9 +17,10 @@ use std::sync::mpsc;
 use std::thread;
 use std::time::Duration;
 
-/// Seeds of random operations, and how many of each: a little over 25,000, for some lines are empty and get no answer.
+/// Seeds of random operations, and how many of each: over 1,500 runs and 25,000 others, though some lines are empty and
+/// get no answer.
 const OPERATION_SEEDS: [u64; 12] = [1, 2, 3, 4, 5, 6, 7, 8, 9, 10, 11, 12];
-const OPERATIONS_PER_SEED: usize = 25_100;
+const OPERATIONS_PER_SEED: usize = 28_600;
 
 /// Seeds of lines that are mostly no operations, and how many of each.
 const DAMAGED_SEEDS: [u64; 2] = [1, 2];
@@ -111,7 +112,9 @@ fn every_call_meets_refusal_11_by_each_field() {
 #[test]
 fn random_operations_are_answered_alike() {
     let compared = OPERATION_SEEDS.map(|seed| compare_random(seed, OPERATIONS_PER_SEED));
-    compared.into_iter().fold(Agreed::default(), Agreed::and).say(AGREE);
+    let agreed = compared.into_iter().fold(Agreed::default(), Agreed::and);
+    agreed.say(AGREE);
+    agreed.say_runs();
 }
 
 /// Compares the answers to random operations.

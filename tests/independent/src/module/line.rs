@@ -40,7 +40,7 @@ impl Module {
             let outcome = match reading {
                 Reading::Empty => Ok(()),
                 Reading::Refused(refusal) => Err(refusal),
-                Reading::Command(command) => self.run(&command, room, &mut answer.written),
+                Reading::Command(command) => self.obey(&command, room, &mut answer.written),
             };
             let Err(refusal) = outcome else { continue };
             self.note(refusal);
@@ -53,7 +53,8 @@ impl Module {
         answer
     }
 
-    fn run(&mut self, command: &Command, room: usize, written: &mut Vec<u8>) -> Result<(), Refusal> {
+    /// One command, whose reply goes behind what is written.
+    fn obey(&mut self, command: &Command, room: usize, written: &mut Vec<u8>) -> Result<(), Refusal> {
         if !command.is_query {
             return self.carry_out(command);
         }

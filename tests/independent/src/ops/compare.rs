@@ -72,6 +72,9 @@ pub fn readable(text: &[u8]) -> String {
         Some(Operation::Byte { byte, end_mark, room }) => {
             format!("byte {} {} {room}", hex::printable(&[byte]), u8::from(end_mark))
         }
+        Some(Operation::Run { bytes, end_mark, room }) => {
+            format!("run {} {} {room}", hex::printable(&bytes), u8::from(end_mark))
+        }
         Some(Operation::Check { capacity, script }) => format!("check {capacity} {}", hex::printable(&script)),
         Some(operation) => operation.to_string(),
         None => format!("no operation: {}", hex::printable(text)),

@@ -13,7 +13,7 @@ pub const ALTER: &str = "alter";
 pub type Met = BTreeMap<(&'static str, String), usize>;
 
 /// The calls that a state is handed to.
-pub const CALLS: [&str; 8] = ["line", "byte", "pair", "tick", "trigger", "measured", "raise", "poll"];
+pub const CALLS: [&str; 9] = ["line", "byte", "run", "pair", "tick", "trigger", "measured", "raise", "poll"];
 
 /// What the answers to operations show.
 pub fn met(operations: &[&[u8]], answers: &[&[u8]]) -> Met {
@@ -38,9 +38,11 @@ fn counted(text: &[u8], answer: &[u8]) -> Option<&'static str> {
     if is_first(&ALTER) {
         return Some(ALTER);
     }
-    let number = answer.split(|&byte| byte == b' ').nth(1)?;
-    let is_refused = number == Refusal::Module.number().to_string().as_bytes();
-    CALLS.into_iter().find(is_first).filter(|_| is_refused)
+    let call = CALLS.into_iter().find(is_first)?;
+    // The answer of a run tells the bytes taken first.
+    let before = if call == "run" { 2 } else { 1 };
+    let number = answer.split(|&byte| byte == b' ').nth(before)?;
+    (number == Refusal::Module.number().to_string().as_bytes()).then_some(call)
 }
 
 #[cfg(test)]
@@ -51,13 +53,14 @@ mod tests {
     #[test]
     fn refusals_are_counted_by_call_and_field() {
         let operations =
-            b"tick\nalter harm 0\ntick\nline 41 1\n\nalter t1 0\npoll\nalter harm 1\ntick\nalter port 9\nraise 0 0\n";
-        let answers = b"A 0\nK\nA 11\nA 11 0 0 aa\n?\nS 11 0\nK\nA 0\nK\nA 11\n";
+            b"tick\nalter harm 0\ntick\nline 41 1\n\nalter t1 0\npoll\nalter harm 1\ntick\nalter port 9\nraise 0 0\n\
+            run 41 0 1\nalter port 1\nrun 4141414141414141414141 0 0\n";
+        let answers = b"A 0\nK\nA 11\nA 11 0 0 aa\n?\nS 11 0\nK\nA 0\nK\nA 11\nB 0 11 0 0 0 aa\nK\nB 11 0 0 0 0 -\n";
         let met = met(&lines(operations), &lines(answers));
         let found: Vec<String> = met.iter().map(|((call, field), count)| format!("{call} {field} {count}")).collect();
         assert_eq!(
             found,
-            ["alter harm 2", "alter port 1", "line harm 1", "poll harm 1", "raise port 1", "tick harm 1"]
+            ["alter harm 2", "alter port 2", "line harm 1", "poll harm 1", "raise port 1", "run port 1", "tick harm 1"]
         );
     }
 }

@@ -4,6 +4,7 @@ use super::compare::lines;
 use super::Operation;
 use crate::hex;
 use crate::module::line::Answer;
+use crate::module::run::RunAnswer;
 use crate::module::state::State;
 use crate::module::Module;
 use crate::point::Point;
@@ -87,9 +88,25 @@ impl Session {
         line_text(&answer, room)
     }
 
+    /// A run of bytes.
+    fn run_call(&mut self, bytes: &[u8], end_mark: bool, room: usize) -> String {
+        let mut buffer = vec![UNTOUCHED; room];
+        let answer = self.admitted().map(|module| module.run(bytes, end_mark, &mut buffer));
+        run_text(&answer.unwrap_or_else(RunAnswer::refused), &buffer)
+    }
+
+    /// An event that may be refused by 6.
     fn event(&mut self, call: impl FnOnce(&mut Module) -> Result<(), Refusal>) -> String {
         let outcome = self.admitted().and_then(call);
         format!("A {}", number(outcome.err()))
+    }
+
+    /// An event that always has its answer 0.
+    fn sure_event(&mut self, call: impl FnOnce(&mut Module)) -> String {
+        self.event(|module| {
+            call(module);
+            Ok(())
+        })
     }
 
     /// A serial poll is lent no traces.
@@ -115,19 +132,11 @@ impl Session {
             Operation::Byte { byte, end_mark, room } => {
                 self.line_call(*room, |module| module.byte(*byte, *end_mark, *room))
             }
+            Operation::Run { bytes, end_mark, room } => self.run_call(bytes, *end_mark, *room),
             Operation::Pair(words) => self.event(|module| module.pair(words.map(|word| Point { word }))),
-            Operation::Tick => self.event(|module| {
-                module.tick_event();
-                Ok(())
-            }),
-            Operation::Trigger => self.event(|module| {
-                module.trigger_event();
-                Ok(())
-            }),
-            Operation::Measured(frequency) => self.event(|module| {
-                module.measured(*frequency);
-                Ok(())
-            }),
+            Operation::Tick => self.sure_event(Module::tick_event),
+            Operation::Trigger => self.sure_event(Module::trigger_event),
+            Operation::Measured(frequency) => self.sure_event(|module| module.measured(*frequency)),
             Operation::Raise { lia, err } => self.event(|module| module.raise(*lia, *err)),
             Operation::Poke { trace, slot, word } => {
                 self.module.poke(*trace, *slot, Point { word: *word });
@@ -155,6 +164,12 @@ fn line_text(answer: &Answer, room: usize) -> String {
     let mut buffer = answer.written.clone();
     buffer.resize(room, UNTOUCHED);
     format!("A {} {} {} {}", number(answer.refusal), answer.place, answer.length, hex::field(&buffer))
+}
+
+/// The answer of a run with the whole reply buffer.
+fn run_text(answer: &RunAnswer, buffer: &[u8]) -> String {
+    let RunAnswer { taken, refusal, line, place, length } = answer;
+    format!("B {taken} {} {line} {place} {length} {}", number(*refusal), hex::field(buffer))
 }
 
 #[cfg(test)]

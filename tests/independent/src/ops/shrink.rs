@@ -47,8 +47,8 @@ impl Other<'_> {
     }
 }
 
-/// A stream from which no operation can be left out without the difference going away, nor a command
-/// of a line or script, and its difference; nothing where the programs agree.
+/// A stream from which no operation can be left out without the difference going away, nor a line or
+/// command of a line, run or script, and its difference; nothing where the programs agree.
 pub fn shrink(other: &Other, operations: &[u8]) -> Result<Option<Difference>, String> {
     let whole: Vec<Vec<u8>> = lines(operations).into_iter().map(<[u8]>::to_vec).collect();
     let Some(mut shown) = other.first_difference(&whole)? else { return Ok(None) };
@@ -71,7 +71,7 @@ pub fn shrink(other: &Other, operations: &[u8]) -> Result<Option<Difference>, St
     Ok(Some(shown))
 }
 
-/// A difference on the stream with one command of the line or script at a place left out.
+/// A difference on the stream with one line or command of the operation at a place left out.
 fn simplify(other: &Other, stream: &[Vec<u8>], at: usize) -> Result<Option<Difference>, String> {
     for operation in with_a_command_less(&stream[at]) {
         let mut simpler = stream.to_vec();
@@ -83,19 +83,26 @@ fn simplify(other: &Other, stream: &[Vec<u8>], at: usize) -> Result<Option<Diffe
     Ok(None)
 }
 
-/// The operations of a line or script with each of its commands left out in turn.
+/// The operations of a line, run or script with each of its lines and commands left out in turn.
 fn with_a_command_less(text: &[u8]) -> Vec<Operation> {
     match Operation::read(text) {
         Some(Operation::Line { line, room }) => {
             without_each(&line, b';').into_iter().map(|line| Operation::Line { line, room }).collect()
         }
-        Some(Operation::Check { capacity, script }) => [b'\n', b';']
+        Some(Operation::Run { bytes, end_mark, room }) => without_lines_or_commands(&bytes)
             .into_iter()
-            .flat_map(|divider| without_each(&script, divider))
-            .map(|script| Operation::Check { capacity, script })
+            .map(|bytes| Operation::Run { bytes, end_mark, room })
             .collect(),
+        Some(Operation::Check { capacity, script }) => {
+            without_lines_or_commands(&script).into_iter().map(|script| Operation::Check { capacity, script }).collect()
+        }
         _ => Vec::new(),
     }
+}
+
+/// The bytes of some lines with each of the lines, then each of the commands, left out in turn.
+fn without_lines_or_commands(bytes: &[u8]) -> Vec<Vec<u8>> {
+    [b'\n', b'\r', b';'].into_iter().flat_map(|divider| without_each(bytes, divider)).collect()
 }
 
 /// The bytes with each of their parts left out in turn; none where there is one part only.
@@ -114,6 +121,7 @@ mod tests {
         assert_eq!(without_each(b"A;B;;C", b';'), [&b"B;;C"[..], b"A;;C", b"A;B;C", b"A;B;"]);
         assert!(without_each(b"A", b';').is_empty());
         assert_eq!(with_a_command_less(b"line 413b42 4").len(), 2);
+        assert_eq!(with_a_command_less(b"run 413b420a43 1 4").len(), 4);
         assert!(with_a_command_less(b"tick").is_empty());
     }
 

@@ -72,9 +72,10 @@ impl Iterator for Lines {
 /// An operation about as long as one may be.
 fn at_most_bytes(generator: &mut Generator) -> Vec<u8> {
     let length = MOST_OPERATION_BYTES - 1 + generator.below(4);
-    match generator.below(3) {
+    match generator.below(4) {
         0 => format!("measured {}7", "0".repeat(length - 10)).into_bytes(),
         1 => format!("line {} {}", "20".repeat((length - 7) / 2), length % 10).into_bytes(),
+        2 => format!("run {} 0 {}", "0a".repeat((length - 8) / 2), "0".repeat(1 + length % 2)).into_bytes(),
         _ => vec![b'd'; length],
     }
 }

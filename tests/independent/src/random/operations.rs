@@ -1,11 +1,12 @@
 //! Random operations of the ops protocol, chosen beside a module that they are performed on.
 
 use super::generator::Generator;
-use super::{alterations, near, scripts};
+use super::{alterations, near, runs, scripts};
 use super::{damaged, lines, point};
 use crate::command::MOST_LINE_BYTES;
 use crate::frequency::{LEAST, LIMIT};
 use crate::module::port::Port;
+use crate::module::Module;
 use crate::ops::{Operation, Session, MOST_ROOM};
 use crate::point::Point;
 use crate::setting::HARM;
@@ -30,15 +31,15 @@ impl Operations {
 
     fn plan(&mut self) {
         let Operations { generator, session, next } = self;
-        match generator.below(1_000) {
+        match generator.below(1_110) {
             0..=44 => next.extend(start(generator)),
             45..=459 => {
-                let line = line(generator, session);
+                let line = line(generator, &session.module);
                 let room = room_near(generator, session, &line);
                 next.push_back(Operation::Line { line, room });
             }
             460..=479 => {
-                let line = line(generator, session);
+                let line = line(generator, &session.module);
                 next.extend(bytes(generator, session, line));
             }
             480..=579 => burst(generator, next),
@@ -51,6 +52,7 @@ impl Operations {
             835..=894 => next.extend(alter(generator, session)),
             895..=898 => next.extend(alterations::to_another_state(generator, session)),
             899..=918 => next.extend(read_back(generator, session)),
+            1_000.. => next.extend(runs::runs(generator, &session.module)),
             _ => next.push_back(Operation::Dump),
         }
     }
@@ -60,6 +62,17 @@ impl Operations {
         let percent = if self.session.module.storage.capacity() <= SHORT_TRACE { 15 } else { 1 };
         if self.generator.chance(percent) {
             self.next.push_front(Operation::Dump);
+        }
+    }
+
+    /// Goes on with the rest of a run that has stopped, mostly.
+    fn plan_rest(&mut self, operation: Operation, answer: &str) {
+        let Operation::Run { bytes, end_mark, .. } = operation else { return };
+        let taken = answer.split(' ').nth(1).and_then(|taken| taken.parse().ok()).unwrap_or(0);
+        if (1..bytes.len()).contains(&taken) && self.generator.chance(80) {
+            let rest = bytes[taken..].to_vec();
+            let room = runs::room_near(&mut self.generator, &self.session.module, &rest, end_mark);
+            self.next.push_front(Operation::Run { bytes: rest, end_mark, room });
         }
     }
 }
@@ -76,16 +89,18 @@ impl Iterator for Operations {
             }
         }
         let operation = self.next.pop_front()?;
-        if operation != Operation::Dump {
-            self.plan_dump();
-        }
         let mut text = operation.to_string().into_bytes();
         // Bytes are damaged but seldom, for else no long line would come through.
         let is_byte = matches!(operation, Operation::Byte { .. });
         if self.generator.below(1_000) < if is_byte { 1 } else { 25 } {
             text = damaged::operation(&mut self.generator, &text);
         }
-        self.session.answer(&text);
+        let answer = self.session.answer(&text).unwrap_or_default();
+        let changes = operation != Operation::Dump;
+        self.plan_rest(operation, &answer);
+        if changes {
+            self.plan_dump();
+        }
         Some(text)
     }
 }
@@ -126,14 +141,14 @@ fn start(generator: &mut Generator) -> Vec<Operation> {
 }
 
 /// A line of one to six commands; a few are of another kind, or about as long as a line may be.
-fn line(generator: &mut Generator, session: &Session) -> Vec<u8> {
+pub fn line(generator: &mut Generator, module: &Module) -> Vec<u8> {
     let mut line = match generator.below(40) {
         0 | 1 => lines::line(generator),
         2 => lines::odd_line(generator),
         3..=12 => lines::set_and_query(generator),
         _ => {
             let count = 1 + generator.below(6);
-            let commands: Vec<Vec<u8>> = (0..count).map(|_| near::command(generator, &session.module)).collect();
+            let commands: Vec<Vec<u8>> = (0..count).map(|_| near::command(generator, module)).collect();
             commands.join(&b';')
         }
     };
@@ -148,7 +163,8 @@ fn line(generator: &mut Generator, session: &Session) -> Vec<u8> {
     line
 }
 
-fn room(generator: &mut Generator) -> usize {
+/// A room for a reply, mostly a small one.
+pub fn room(generator: &mut Generator) -> usize {
     match generator.below(50) {
         0..=44 => generator.below(41),
         45..=48 => generator.below(400),
@@ -281,7 +297,10 @@ fn alter(generator: &mut Generator, session: &Session) -> Vec<Operation> {
     if generator.chance(50) {
         operations.push(Operation::Line { line: queries.join(";").into_bytes(), room: 64 });
     }
-    for _ in 0..1 + generator.below(6) {
+    if generator.chance(50) {
+        operations.push(runs::one(generator, &session.module));
+    }
+    for _ in 0..1 + generator.below(7) {
         operations.push(call(generator, session));
     }
     if generator.chance(85) {
@@ -292,8 +311,8 @@ fn alter(generator: &mut Generator, session: &Session) -> Vec<Operation> {
 
 /// Any call, or the state.
 fn call(generator: &mut Generator, session: &Session) -> Operation {
-    match generator.below(9) {
-        0 => Operation::Line { line: line(generator, session), room: room(generator) },
+    match generator.below(10) {
+        0 => Operation::Line { line: line(generator, &session.module), room: room(generator) },
         1 => {
             let byte = generator.pick(b"A;1?\r\n");
             Operation::Byte { byte, end_mark: generator.chance(20), room: generator.below(41) }
@@ -304,6 +323,7 @@ fn call(generator: &mut Generator, session: &Session) -> Operation {
         5 => measured(generator, session),
         6 => raise(generator),
         7 => Operation::Poll,
+        8 => runs::one(generator, &session.module),
         _ => Operation::Dump,
     }
 }
@@ -320,6 +340,7 @@ fn check(generator: &mut Generator) -> Operation {
 #[cfg(test)]
 mod tests {
     use super::*;
+    use crate::ops::runs::{counts, with_words};
 
     #[test]
     fn the_same_seed_gives_the_same_operations() {
@@ -364,5 +385,24 @@ mod tests {
         }
         least("serial", "fmod=0", 300);
         least("serial", "dropping=1", 5);
+    }
+
+    /// Runs that stop, are gone on with, and are refused in each way come up often enough.
+    #[test]
+    fn every_kind_of_run_comes_up() {
+        let operations: Vec<Vec<u8>> = Operations::new(1).take(20_000).filter(|text| !text.is_empty()).collect();
+        let mut session = Session::new();
+        let answers: Vec<String> = operations.iter().filter_map(|text| session.answer(text)).collect();
+        let operations: Vec<&[u8]> = operations.iter().map(Vec::as_slice).collect();
+        let answers: Vec<&[u8]> = answers.iter().map(String::as_bytes).collect();
+        for (found, kind) in with_words(counts(&operations, &answers)) {
+            let least = match kind {
+                "are runs" => 900,
+                "stop" | "end within a line" | "go on with the rest of one that stopped" => 100,
+                "are refused by 9" | "meet 5 in a later line" | "stop before a marked byte" => 3,
+                _ => 20,
+            };
+            assert!(found >= least, "{kind}: {found}");
+        }
     }
 }

@@ -55,6 +55,7 @@ fn calls(field: &Field) -> Vec<Operation> {
         Operation::Measured((100 * HERTZ) as u32),
         Operation::Raise { lia: 1, err: 2 },
         Operation::Byte { byte: b'\n', end_mark: false, room: 4 },
+        Operation::Run { bytes: b"HARM?\nFREQ?\nSPTS?".to_vec(), end_mark: true, room: 8 },
         Operation::Dump,
         Operation::Poll,
     ]

@@ -5,6 +5,7 @@ use super::scratch::Scratch;
 use super::{counts, ops};
 use independent::ops::compare::{first_difference, lines, report};
 use independent::ops::met::{met, Met, ALTER, CALLS};
+use independent::ops::runs;
 use independent::ops::Operation;
 use std::path::Path;
 
@@ -17,6 +18,8 @@ pub struct Agreed {
     pub answers: usize,
     /// The alterations, and the calls refused by 11.
     pub met: Met,
+    /// The runs of each kind.
+    pub runs: runs::Counts,
 }
 
 impl Agreed {
@@ -25,6 +28,9 @@ impl Agreed {
         self.answers += other.answers;
         for (call, times) in other.met {
             *self.met.entry(call).or_default() += times;
+        }
+        for (count, more) in self.runs.iter_mut().zip(other.runs) {
+            *count += more;
         }
         self
     }
@@ -35,6 +41,14 @@ impl Agreed {
         for word in [ALTER].into_iter().chain(CALLS) {
             let times = self.met.iter().filter(|((call, _), _)| *call == word).map(|(_, times)| times);
             counts::say_in_all(times.sum(), word);
+        }
+    }
+
+    /// Fails the test where some kind of runs did not come up, and prints how many there are of each.
+    pub fn say_runs(&self) {
+        for (count, words) in runs::with_words(self.runs) {
+            assert!(count > 0, "of the runs none {words}");
+            counts::say(count, words);
         }
     }
 }
@@ -66,7 +80,8 @@ pub fn compare_and_give(title: &str, operations: &[u8]) -> (Agreed, Vec<u8>) {
     });
     assert_ended_well(title, &program, &output);
     let met = met(&asked, &given);
-    (Agreed { answers, met }, output.stdout)
+    let runs = runs::counts(&asked, &given);
+    (Agreed { answers, met, runs }, output.stdout)
 }
 
 /// A short stream of operations that a program answers differently, and both answers to its last one.

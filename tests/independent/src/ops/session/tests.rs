@@ -340,6 +340,8 @@ fn an_altered_state_is_tested_by_each_call() {
     for (call, answer) in [
         ("line 41 2", "A 11 0 0 aaaa"),
         ("byte 41 0 1", "A 11 0 0 aa"),
+        ("run 410a 1 2", "B 0 11 0 0 0 aaaa"),
+        ("run - 0 0", "B 0 11 0 0 0 -"),
         ("pair 00000000 00000000", "A 11"),
         ("pair ffffffff 00000000", "A 11"),
         ("tick", "A 11"),
@@ -363,6 +365,8 @@ fn traces_of_another_capacity_are_refused_by_9_after_11() {
     {
         desk.does(&format!("alter cap {capacity}"));
         assert_eq!((desk.does("tick").as_str(), desk.does("poll").as_str()), (tick, poll), "{capacity}");
+        let run = format!("B 0 {} 0 0 0 -", &tick[2..]);
+        assert_eq!(desk.does("run - 0 0"), run, "{capacity}");
         assert_eq!(desk.field("t1").len(), 8 * 9 - 1);
     }
 }
