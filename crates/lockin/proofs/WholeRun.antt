@@ -12,7 +12,6 @@ use lib.Seq.{take-append-le, drop-append-le, drop-append-add, drop-drop, drop-le
 use Rattle.laws.proofs.Tests.{split}
 use Rattle.outcome.specs.declared.Refusal.{Refusal}
 use Rattle.outcome.specs.declared.Outcome.the-variants as outcome
-use Rattle.outcome.specs.Answer.{numbersOf}
 use Rattle.queue.specs.Queue.{waitingBytes, isEnd, receivedOf}
 use Rattle.reply_buffer.specs.Buffer.{overwrite}
 use Rattle.reply_buffer.specs.After.{After, Meets}
@@ -22,8 +21,8 @@ use Rattle.module.specs.Module.{guardOf}
 use Rattle.module.specs.declared.Module.{Module}
 use Rattle.lockin.specs.Calls.{guarded, receivedCall, byteReceived}
 use Rattle.lockin.specs.Run.{Run, repliedLength, writtenBehind, nextByte, lacksRoom, stopsAt, markBefore, runFrom, startRun}
-use Rattle.lockin.specs.Run.{refusedRun, runCall, runResult}
-use Rattle.lockin.specs.Parts.{runAt, progressOf, resultAt, NextByte}
+use Rattle.lockin.specs.Run.{runReport, refusedRun, runCall, runResult, runNumbersOf}
+use Rattle.lockin.specs.Parts.{tallyAt, runAt, progressOf, resultAt, NextByte}
 use Rattle.lockin.specs.declared.byte_run.RunProgress.{RunProgress}
 use Rattle.lockin.specs.declared.byte_run.RunReport.{RunReport}
 use Rattle.lockin.specs.declared.byte_run.RunResult.{RunResult}
@@ -237,7 +236,7 @@ module _ {run : List ℕ} {mark : Bool} {one₀ two₀ reply₀ : List ℕ} {p�
 -- what `lockin::take_run` promises of a call
 abbrev RunAnswers : After Module RunReport → RunResult → List ℕ → List ℕ → List ℕ → List ℕ → Type 0
 RunAnswers c r one two new old =
-    Meets runResult c r one two new old × (numbersOf (r .report .report) ≡ numbersOf (c .report .report))
+    Meets runResult c r one two new old × (runNumbersOf (r .report) ≡ runNumbersOf (c .report))
 
 module _ (bytes : List ℕ) (mark : Bool) (m : Module) (one two : List ℕ) where
   -- a run that 11 and 9 let be done
@@ -249,7 +248,7 @@ module _ (bytes : List ℕ) (mark : Bool) (m : Module) (one two : List ℕ) wher
   run-answers done h =
       rw done (
         record { result = ap resultAt (h .result); first = h .first; second = h .second; reply = h .reply },
-        ap (λ p. numbersOf (p .report)) (h .result),
+        ap (λ p. runNumbersOf (runReport (tallyAt p))) (h .result),
       )
 
   -- one that 11 or 9 refuses

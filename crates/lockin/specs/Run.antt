@@ -8,7 +8,7 @@ use Rattle.outcome.specs.declared.Refusal.{Refusal}
 use Rattle.outcome.specs.declared.Answer.{Answer}
 use Rattle.outcome.specs.declared.Answer.the-variants.{Passed, Refused}
 use Rattle.outcome.specs.declared.Report.{Report}
-use Rattle.outcome.specs.Answer.{reportOf}
+use Rattle.outcome.specs.Answer.{reportOf, numbersOf}
 use Rattle.queue.specs.Queue.{isEnd, waitingBytes, receivedOf}
 use Rattle.queue.specs.declared.LineEnd.{LineEnd}
 use Rattle.queue.specs.declared.LineEnd.the-variants.{Nothing, Line, TooLong}
@@ -18,6 +18,7 @@ use Rattle.line.specs.Line.{lineOf}
 use Rattle.module.specs.Module.{guardOf}
 use Rattle.module.specs.declared.Module.{Module}
 use Rattle.lockin.specs.Calls.{guarded, refusedWhole, byteReceived}
+use Rattle.lockin.specs.declared.byte_run.RunNumbers.{RunNumbers}
 use Rattle.lockin.specs.declared.byte_run.RunReport.{RunReport}
 use Rattle.lockin.specs.declared.byte_run.RunResult.{RunResult}
 
@@ -83,17 +84,17 @@ isLine Nothing = false
 isLine Line = true
 isLine TooLong = false
 
--- §2.10: whether a byte would end a line of which some command meets 4 (§12.4) in what is left of the room
-unfoldable pub lacksRoom : ℕ → ℕ → Bool → Run → Bool
-lacksRoom room b mark r =
-    let s = r .after .state in
-    let received = receivedOf (r .after .queue) (s .installation .port) b mark in
+-- §2.10: whether a byte would end a line of which some command meets 4 (§12.4), where `left` is left of the room
+unfoldable pub lacksRoom : ℕ → ℕ → Bool → Module → List ℕ → List ℕ → Bool
+lacksRoom left b mark m one two =
+    let received = receivedOf (m .queue) (m .state .installation .port) b mark in
     isLine (received .ending)
-    && lineOf (room - repliedLength r) (waitingBytes (received .queue)) s (r .one) (r .two) .report .dropped
+    && lineOf left (waitingBytes (received .queue)) (m .state) one two .report .dropped
 
 -- §2.10: the run stops before such a byte, unless its line is the first to end in the run
 unfoldable pub stopsAt : ℕ → ℕ → Bool → Run → Bool
-stopsAt room b mark r = ltb 0 (r .report .ended) && lacksRoom room b mark r
+stopsAt room b mark r =
+    ltb 0 (r .report .ended) && lacksRoom (room - repliedLength r) b mark (r .after) (r .one) (r .two)
 
 -- ---- the run
 
@@ -131,6 +132,12 @@ unfoldable pub runCall : ℕ → List ℕ → Bool → Module → List ℕ → L
 runCall room bytes mark m one two =
     guarded refusedRun (guardOf m (length one) (length two))
     (reported (runFrom room mark bytes (startRun m one two))) m one two
+
+-- §1.6: what a run reports, in numbers: no refusal is 0, at line and place 0. The promises of these calls use it
+unfoldable pub runNumbersOf : RunReport → RunNumbers
+runNumbersOf t =
+    let n = numbersOf (t .report) in
+    record { taken = t .taken; refusal = n .refusal; line = t .line; place = n .place; length = n .length }
 
 -- what the code gives back of it
 abbrev pub runResult : After Module RunReport → RunResult

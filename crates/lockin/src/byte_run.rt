@@ -7,14 +7,13 @@ ghost use Prim.Native.Nat.{ℕ, _+_, _-_, _≤_, _<_};
 ghost use lib.Dec.{ltb};
 ghost use lib.ListN.{length, drop};
 ghost use Rattle.line_text.specs.Clean.{lineLimit};
-ghost use Rattle.outcome.specs.Answer.{numbersOf};
 ghost use Rattle.queue.specs.Queue.{isEnd};
 ghost use Rattle.queue.specs.declared.LineEnd.the-variants.{Nothing};
 ghost use Rattle.reply_buffer.specs.After.{Meets};
 ghost use Rattle.line.specs.Line.{lineOf};
 ghost use Rattle.lockin.specs.Calls.{lineEnd};
 ghost use Rattle.lockin.specs.Run.{Run, firstAnswer, firstLine, isLine, markBefore, runFrom, startRun};
-ghost use Rattle.lockin.specs.Run.{refusedRun, runCall, runResult};
+ghost use Rattle.lockin.specs.Run.{refusedRun, runCall, runResult, runNumbersOf};
 ghost use Rattle.lockin.specs.Parts.{runAt, progressOf, resultAt, withQuiet, advanced, Behind, NextByte};
 use crate::StateResult;
 use crate::end_line;
@@ -36,6 +35,20 @@ pub struct RunReport {
     pub line: usize,
     // The first refusal with its place, and the length of the replies, one behind the other.
     pub report: Report,
+}
+
+// The same in numbers.
+pub struct RunNumbers {
+    // How many bytes were taken.
+    pub taken: usize,
+    // The first refusal's number, 0 where nothing is refused.
+    pub refusal: u8,
+    // The line in which it fell, from 1 in the run; 0 where nothing is refused, or the run is refused as a whole.
+    pub line: usize,
+    // The place of the refused command, 0 where nothing is refused, or no command.
+    pub place: u32,
+    // The length of the replies.
+    pub length: usize,
 }
 
 // A call with a run of bytes: the module after it, and its report.
@@ -376,6 +389,20 @@ fn refused_run(m: Module, refusal: Refusal) -> RunResult
     }
 }
 
+// A run's report in numbers.
+pub fn run_numbers_of(report: RunReport) -> RunNumbers
+    ensures { λ r. ⌜ r ≡ runNumbersOf report ⌝ }
+{
+    let numbers = outcome::numbers_of(report.report);
+    RunNumbers {
+        taken: report.taken,
+        refusal: numbers.refusal,
+        line: report.line,
+        place: numbers.place,
+        length: numbers.length,
+    }
+}
+
 // A run of bytes, of which the last may carry an end mark, and one reply room for all its lines.
 pub fn take_run(
     m: Module,
@@ -388,9 +415,9 @@ pub fn take_run(
     ensures { λ r. ⌜ Meets runResult
         (runCall (length (now (reply .entry))) (now (bytes .entry)) mark m (now (one .entry)) (now (two .entry)))
         r (now (one .exit)) (now (two .exit)) (now (reply .exit)) (now (reply .entry)) ⌝ }
-    ensures { λ r. ⌜ numbersOf (r .report .report) ≡ numbersOf
+    ensures { λ r. ⌜ runNumbersOf (r .report) ≡ runNumbersOf
         (runCall (length (now (reply .entry))) (now (bytes .entry)) mark m (now (one .entry)) (now (two .entry))
-        .report .report) ⌝ }
+        .report) ⌝ }
 {
     let state = m.state;
     let waiting = m.queue.bytes;

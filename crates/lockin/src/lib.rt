@@ -18,8 +18,10 @@ ghost use Rattle.lockin.specs.Parts.{lengthOf, resultOf, GuardedStep};
 
 mod byte_run;
 
+pub use byte_run::RunNumbers;
 pub use byte_run::RunReport;
 pub use byte_run::RunResult;
+pub use byte_run::run_numbers_of;
 pub use byte_run::take_run;
 pub use event::Event;
 use event::EventEffect;
