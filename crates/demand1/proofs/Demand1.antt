@@ -2,7 +2,7 @@
 use Prim.Native.Nat.{ℕ, _+_, _≤_}
 use native.Mathlib.Omega.{arith}
 use mathlib.Core.Logic.{_↔_}
-use mathlib.Core.Path.{_≡_, refl, ap, _∙_}
+use mathlib.Core.Path.{_≡_, refl, sym, ap, subst, _∙_}
 use mathlib.Core.Bool.{Bool, true, false, cond, _&&_, _||_}
 use mathlib.Core.List.{List}
 use lib.Dec.{ltb, eqb}
@@ -19,6 +19,7 @@ use Rattle.state.specs.State.{pairOf, withRegisters, withLatest}
 use Rattle.state.specs.Valid.{latestValid}
 use Rattle.state.specs.declared.State.{State}
 use Rattle.state.specs.declared.Installation as installation
+use Rattle.reply_buffer.specs.After.{After, silent}
 use Rattle.line.specs.Line.{runAll, startLine, lineOf}
 use Rattle.event.specs.Event.{done, refused, latestTaken, bitsRaised, sampledIn, eventOf}
 use Rattle.event.specs.declared.Event.{Event}
@@ -36,8 +37,11 @@ use Rattle.lockin.specs.declared.PollResult.{PollResult}
 use Rattle.lockin.specs.Start.{refusedStart, startCall}
 use Rattle.lockin.specs.Calls.{Call, withQueue, guarded, refusedWhole, lineRan, lineEnd, wholeEnd, wholeLine, lineCall}
 use Rattle.lockin.specs.Calls.{receivedCall, byteReceived, byteCall, eventCall, pollCall}
+use Rattle.lockin.specs.Run.{refusedRun, runCall}
+use Rattle.lockin.specs.declared.byte_run.RunReport.{RunReport}
+use Rattle.runs.proofs.Singly.{runs-are-bytes}
 use Rattle.demand1.specs.Demand1.{FirstRefusedCommand, RunsLine, receivedTo, RunsWaiting, OnlyQueued, Untouched, OnlyMarked}
-use Rattle.demand1.specs.Demand1.{RefusedCall, emptiedAt, RefusedEvent, OfStart, RefusedStart, RefusedPoll}
+use Rattle.demand1.specs.Demand1.{RefusedCall, emptiedAt, OfRun, RefusedRun, RefusedEvent, OfStart, RefusedStart, RefusedPoll}
 use Rattle.demand1.specs.Demand1.{RefusedChangesNothing}
 use Rattle.demand1.specs.Demand1 as demand
 use Rattle.demand1.proofs.OneByOne.{marked-only, command-refused, step-refused, commands-are, answering}
@@ -338,6 +342,45 @@ poll-refused m r = (by (validModule m) refl, λ x. rw (x .outside, x .report)) w
   by true t e = never (cc)
   by false t e = record { report = cc; outside = t; status = refl }
 
+-- ---- runs of bytes
+
+module _ (room : ℕ) (bytes : List ℕ) (mark : Bool) (m : Module) (one two : List ℕ) (refusal : Refusal) (place : ℕ)
+    (e : runCall room bytes mark m one two .report .report .answer ≡ answer.Refused refusal place) where
+  -- the refusal of 11 or 9
+  refused-whole : (r : Refusal) → guardOf m (length one) (length two) ≡ Refused r →
+      runCall room bytes mark m one two ≡ silent (refusedRun r) m one two
+  unfolding runCall guarded
+  refused-whole r g = rw g
+
+  run-stays : (r : Refusal) → OfRun r → guardOf m (length one) (length two) ≡ Refused r →
+      RefusedRun refusal place m one two (runCall room bytes mark m one two)
+  run-stays r of g =
+      let is : runCall room bytes mark m one two ≡ silent (refusedRun r) m one two = refused-whole r g in
+      let told : answer.Refused r 0 ≡ answer.Refused refusal place =
+      sym (ap (λ (c : After Module RunReport). c .report .report .answer) is) ∙ e in
+      let same : r ≡ refusal = cc in
+      let nowhere : place ≡ 0 = cc in
+      subst (RefusedRun refusal place m one two) (sym is)
+      (record {
+        report = rw (← same) of;
+        nowhere = nowhere;
+        taken = refl;
+        length = refl;
+        after = refl;
+        first = refl;
+        second = refl;
+        reply = refl;
+      })
+
+  run-refused : runCall room bytes mark m one two .report .line ≡ 0 →
+      RefusedRun refusal place m one two (runCall room bytes mark m one two)
+  run-refused l =
+      guard-by m (length one) (length two)
+      (λ o. guardOf m (length one) (length two) ≡ o →
+      RefusedRun refusal place m one two (runCall room bytes mark m one two))
+      (λ g. let some = runs-are-bytes .placed room bytes mark m one two refusal place g e in absurd (omega arith))
+      (run-stays BadTraces demand.ofTraces) (run-stays BadState demand.ofState) refl
+
 pub refused-changes-nothing : RefusedChangesNothing
 unfolding Refuses
 refused-changes-nothing =
@@ -351,6 +394,8 @@ refused-changes-nothing =
       byte-runs = byte-runs;
       byte-waits = byte-waits;
       byte-placed = byte-placed;
+      run = run-refused;
+      run-bytes = runs-are-bytes .same;
       event = call-refused;
       start = start-refused;
       poll = poll-refused;

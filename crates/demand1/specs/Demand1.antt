@@ -16,6 +16,7 @@ use Rattle.line_text.specs.Texts.{textsOf}
 use Rattle.command.specs.Parsed.{parsedOf}
 use Rattle.state.specs.State.{withErrorBit}
 use Rattle.state.specs.declared.State.{State}
+use Rattle.reply_buffer.specs.After.{After}
 use Rattle.line.specs.Perform.{Effect, commandOf}
 use Rattle.outcome.specs.Answer.{isNoRoom, firstOf}
 use Rattle.line.specs.Line.{Line, waits, afterCommand, runAll, startLine}
@@ -29,8 +30,11 @@ use Rattle.module.specs.Module.{validModule, guardOf}
 use Rattle.module.specs.declared.Module.{Module}
 use Rattle.lockin.specs.declared.StartResult.{StartResult}
 use Rattle.lockin.specs.declared.PollResult.{PollResult}
+use Rattle.lockin.specs.declared.byte_run.RunReport.{RunReport}
 use Rattle.lockin.specs.Start.{startCall}
 use Rattle.lockin.specs.Calls.{Call, lineCall, byteCall, EventCall, eventCall, pollCall}
+use Rattle.lockin.specs.Run.{runCall}
+use Rattle.runs.specs.Singly.{SameAsSingly}
 
 -- ---- the bit laid down
 
@@ -218,6 +222,28 @@ pub data RefusedCall (m : Module) (q : Queue) (one two : List ℕ) (c : Call) : 
 abbrev pub emptiedAt : Queue → Bool → Queue
 emptiedAt q marked = discardingIs (not marked) (emptiedOf q)
 
+-- ---- runs of bytes
+
+-- §1.6: the refusals of a run as a whole
+pub data OfRun : Refusal → Type 0 where
+  -- §12.11: 11
+  ofState : OfRun BadState
+  -- §12.9: 9
+  ofTraces : OfRun BadTraces
+
+-- §1.4 and §1.6: a run that is refused as a whole, at place 0: no byte is taken, and nothing is changed
+pub record RefusedRun (refusal : Refusal) (place : ℕ) (m : Module) (one two : List ℕ) (c : After Module RunReport) :
+    Type 0
+  where
+    pub report : OfRun refusal
+    pub nowhere : place ≡ 0
+    pub taken : c .report .taken ≡ 0
+    pub length : c .report .report .length ≡ 0
+    pub after : c .after ≡ m
+    pub first : c .one ≡ one
+    pub second : c .two ≡ two
+    pub reply : c .out ≡ []
+
 -- ---- events, starts and polls
 
 -- §1.5: the refusals of an event
@@ -296,6 +322,15 @@ pub record RefusedChangesNothing : Type 0 where
   pub byte-placed : (room b : ℕ) (mark : Bool) (m : Module) (one two : List ℕ) (refusal : Refusal) (p : ℕ) →
       byteCall room b mark m one two .report .answer ≡ answer.Refused refusal (p + 1) →
       (receivedTo m b mark .ending ≡ ending.Line) × RunsWaiting room b mark m one two
+  -- §1.6: a run of bytes: refused as a whole, wherever it reports a refusal at line 0;
+  pub run : (room : ℕ) (bytes : List ℕ) (mark : Bool) (m : Module) (one two : List ℕ) (refusal : Refusal) (place : ℕ) →
+      runCall room bytes mark m one two .report .report .answer ≡ answer.Refused refusal place →
+      runCall room bytes mark m one two .report .line ≡ 0 →
+      RefusedRun refusal place m one two (runCall room bytes mark m one two)
+  -- §2.9: and else each byte that it takes is a byte's call, of which the above is said
+  pub run-bytes : (room : ℕ) (bytes : List ℕ) (mark : Bool) (m : Module) (one two : List ℕ) →
+      length (m .queue .bytes) ≡ lineLimit → guardOf m (length one) (length two) ≡ Done →
+      SameAsSingly room bytes mark m one two (runCall room bytes mark m one two)
   -- §12.6, §12.9 and §12.11: an event
   pub event : (event : Event) (m : Module) (one two : List ℕ) (refusal : Refusal) →
       eventCall event m one two .report ≡ Refused refusal →

@@ -1,12 +1,13 @@
 -- Every call leads from a valid module to a valid one. Assumes nothing.
-use Prim.Native.Nat.{ℕ}
+use Prim.Native.Nat.{ℕ, _-_}
 use native.Mathlib.Omega.{arith}
 use mathlib.Core.Path.{_≡_, refl, sym, _∙_}
 use mathlib.Core.Bool.{Bool, true, false, cond, _&&_, _||_, and-eq-true-iff}
-use mathlib.Core.List.{List}
+use mathlib.Core.List.{List, [], _∷_}
 use lib.Dec.{leb, ltb, eqb}
 use lib.ListN.{length, length-set}
 use borrow.Author.Tests.{eqb-true, eq-eqb}
+use Rattle.laws.proofs.Tests.{cond-by}
 use Rattle.outcome.specs.declared.Refusal.{Refusal}
 use Rattle.outcome.specs.declared.Refusal.the-variants.{LongLine, BadTraces, BadStart, BadState}
 use Rattle.outcome.specs.declared.Outcome.{Outcome}
@@ -32,8 +33,9 @@ use Rattle.lockin.specs.Start.{refusedStart, startCall}
 use Rattle.reply_buffer.specs.After.{After}
 use Rattle.lockin.specs.Calls.{withQueue, guarded, refusedWhole, lineEnd, wholeLine, lineCall, receivedCall, byteReceived}
 use Rattle.lockin.specs.Calls.{byteCall, eventCall}
+use Rattle.lockin.specs.Run.{Run, repliedLength, nextByte, stopsAt, markBefore, runFrom, startRun, refusedRun, runCall}
 use Rattle.invariant.specs.States.{StatePreserved}
-use Rattle.invariant.specs.StaysValid.{ModulePreserved, Reachable, byStart, byLine, byByte, byEvent, StaysValid}
+use Rattle.invariant.specs.StaysValid.{ModulePreserved, Reachable, byStart, byLine, byByte, byRun, byEvent, StaysValid}
 use Rattle.invariant.proofs.Change.{marked-stays}
 use Rattle.invariant.proofs.States.{states-stay}
 
@@ -219,18 +221,60 @@ run-follows ending.Nothing m q f = f
 run-follows ending.Line m q f = record { kept = λ h. emptied-keeps q (m .state .installation .port); queued = f .queued }
 run-follows ending.TooLong m q f = f
 
-byte-goes : (room b : ℕ) (mark : Bool) (m : Module) (one two : List ℕ) → length (m .queue .bytes) ≡ queue.lineLimit →
-    On m one two (byteCall room b mark m one two)
-unfolding byteCall byteReceived receivedCall
-byte-goes room b mark m one two long =
+-- a byte, where 11 and 9 are not asked
+received-goes : (room b : ℕ) (mark : Bool) (m : Module) (one two : List ℕ) → length (m .queue .bytes) ≡ queue.lineLimit →
+    On m one two (byteReceived room b mark m one two)
+unfolding byteReceived receivedCall
+received-goes room b mark m one two long =
     let port = m .state .installation .port in
     let received = queue.receivedOf (m .queue) port b mark in
     let follows : Follows m (received .queue) = record {
       kept = λ k. received-keeps (m .queue) port k b mark long;
       queued = received-length (m .queue) port b mark;
     } in
+    end-goes (received .ending) room _ m _ one two (run-follows (received .ending) m (received .queue) follows)
+
+byte-goes : (room b : ℕ) (mark : Bool) (m : Module) (one two : List ℕ) → length (m .queue .bytes) ≡ queue.lineLimit →
+    On m one two (byteCall room b mark m one two)
+unfolding byteCall
+byte-goes room b mark m one two long =
     guarded-goes refusedWhole (guardOf m (length one) (length two)) _ m one two
-    (end-goes (received .ending) room _ m _ one two (run-follows (received .ending) m (received .queue) follows))
+    (received-goes room b mark m one two long)
+
+-- ---- a run of bytes
+
+-- one call after the other
+then-goes : (l m n : Module) (one two first second third fourth : List ℕ) →
+    ModulePreserved l m one two first second → ModulePreserved m n first second third fourth →
+    ModulePreserved l n one two third fourth
+then-goes l m n one two first second third fourth f g =
+    record {
+      valid = λ h. g .valid (f .valid h);
+      next = λ h. g .next (f .next h);
+      queued = g .queued ∙ f .queued;
+    }
+
+module _ (room : ℕ) (m : Module) (one two : List ℕ) (long : length (m .queue .bytes) ≡ queue.lineLimit) where
+  next-goes : (b : ℕ) (mark : Bool) (r : Run) → On m one two r → On m one two (nextByte room b mark r)
+  unfolding nextByte
+  next-goes b mark r g =
+      let c = byteReceived (room - repliedLength r) b mark (r .after) (r .one) (r .two) in
+      then-goes m (r .after) (c .after) one two (r .one) (r .two) (c .one) (c .two) g
+      (received-goes (room - repliedLength r) b mark (r .after) (r .one) (r .two) (g .queued ∙ long))
+
+  bytes-go : (mark : Bool) (bytes : List ℕ) (r : Run) → On m one two r → On m one two (runFrom room mark bytes r)
+  unfolding runFrom
+  bytes-go mark [] r g = g
+  bytes-go mark (b ∷ more) r g =
+      let marked = markBefore mark more in
+      cond-by (λ (x : Run). On m one two x) (stopsAt room b marked r) (λ e. g)
+      (λ e. bytes-go mark more (nextByte room b marked r) (next-goes b marked r g))
+
+  run-goes : (bytes : List ℕ) (mark : Bool) → On m one two (runCall room bytes mark m one two)
+  unfolding runCall
+  run-goes bytes mark =
+      guarded-goes refusedRun (guardOf m (length one) (length two)) _ m one two
+      (bytes-go mark bytes (startRun m one two) (same-goes m one two))
 
 event-goes : (e : Event) (m : Module) (one two : List ℕ) → On m one two (eventCall e m one two)
 unfolding eventCall
@@ -253,6 +297,10 @@ made-both _ (byByte room b mark m one two k) =
     let w = made-both m k in
     let c = byteCall room b mark m one two in
     goes-whole m (c .after) one two (c .one) (c .two) (byte-goes room b mark m one two (w .1)) w
+made-both _ (byRun room bytes mark m one two k) =
+    let w = made-both m k in
+    let c = runCall room bytes mark m one two in
+    goes-whole m (c .after) one two (c .one) (c .two) (run-goes room m one two (w .1) bytes mark) w
 made-both _ (byEvent e m one two k) =
     let c = eventCall e m one two in
     goes-whole m (c .after) one two (c .one) (c .two) (event-goes e m one two) (made-both m k)
@@ -265,6 +313,7 @@ stays-valid =
       queued = λ serial port first second. start-made serial port first second .1;
       line = line-goes;
       byte = byte-goes;
+      run = λ room bytes mark m one two long. run-goes room m one two long bytes mark;
       event = event-goes;
       made = λ m k. made-both m k .0;
     }

@@ -11,6 +11,7 @@ use Rattle.module.specs.Module.{validModule, guardOf}
 use Rattle.module.specs.declared.Module.{Module}
 use Rattle.lockin.specs.Start.{startCall}
 use Rattle.lockin.specs.Calls.{lineCall, byteCall, eventCall}
+use Rattle.lockin.specs.Run.{runCall}
 
 -- §1.4: from a module and its traces to others: a valid module stays valid, and where neither 11 (the state, §12.11)
 -- nor 9 (the traces, §12.9) refuses a call, neither refuses the next one; the queue's bytes stay as many
@@ -29,11 +30,14 @@ pub data Reachable : Module → Type 0 where
   -- §2.2: by a byte
   byByte : (room b : ℕ) (mark : Bool) (m : Module) (one two : List ℕ) → Reachable m →
       Reachable (byteCall room b mark m one two .after)
+  -- §2.9: by a run of bytes
+  byRun : (room : ℕ) (bytes : List ℕ) (mark : Bool) (m : Module) (one two : List ℕ) → Reachable m →
+      Reachable (runCall room bytes mark m one two .after)
   -- by an event
   byEvent : (event : Event) (m : Module) (one two : List ℕ) → Reachable m → Reachable (eventCall event m one two .after)
 
 -- §12.11: every start, refused ones too (§1.3), gives a valid module whose queue has all its bytes; where the start is
--- not refused, 9 does not refuse the traces either; §1.4: every line, byte and event leads on from there, so that no
+-- not refused, 9 does not refuse the traces either; §1.4: every line, byte, run and event leads on from there, so that no
 -- module that we made is refused by 11
 pub record StaysValid : Type 0 where
   pub start : (serial port first second : ℕ) → validModule (startCall serial port first second .after) ≡ true
@@ -46,6 +50,10 @@ pub record StaysValid : Type 0 where
       ModulePreserved m (c .after) one two (c .one) (c .two)
   pub byte : (room b : ℕ) (mark : Bool) (m : Module) (one two : List ℕ) → length (m .queue .bytes) ≡ lineLimit →
       let c = byteCall room b mark m one two in
+      ModulePreserved m (c .after) one two (c .one) (c .two)
+  pub run : (room : ℕ) (bytes : List ℕ) (mark : Bool) (m : Module) (one two : List ℕ) →
+      length (m .queue .bytes) ≡ lineLimit →
+      let c = runCall room bytes mark m one two in
       ModulePreserved m (c .after) one two (c .one) (c .two)
   pub event : (event : Event) (m : Module) (one two : List ℕ) →
       let c = eventCall event m one two in
