@@ -113,13 +113,16 @@ module _ (room : ℕ) (r : Run) (good : Good r) where
     stops-here e =
         let ends = ltb 0 (r .report .ended) in
         let lacks = lacksRoom (room - repliedLength r) b mark (r .after) (r .one) (r .two) in
-        record { before = ltb-true 0 (r .report .ended) (and-first ends lacks e); here = rw replied (and-second ends lacks e) }
+        let some = ltb-true 0 (r .report .ended) (and-first ends lacks e) in
+        record { before = omega arith; here = rw replied (and-second ends lacks e) }
 
     goes-here : stopsAt room b mark r ≡ false → Stops room b mark (fedOf r) → ⊥
     unfolding stopsAt
     goes-here e s =
+        let some = s .before in
+        let ends = lt-ltb 0 (r .report .ended) (omega arith) in
         let lacks = rw replied at (s .here) in
-        false≢true (sym e ∙ rw (lt-ltb 0 (r .report .ended) (s .before), lacks))
+        false≢true (sym e ∙ rw (ends, lacks))
 
 -- ---- the whole run
 
