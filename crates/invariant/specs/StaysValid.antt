@@ -37,8 +37,8 @@ pub data Reachable : Module → Type 0 where
   byEvent : (event : Event) (m : Module) (one two : List ℕ) → Reachable m → Reachable (eventCall event m one two .after)
 
 -- §12.11: every start, refused ones too (§1.3), gives a valid module whose queue has all its bytes; where the start is
--- not refused, 9 does not refuse the traces either; §1.4: every line, byte, run and event leads on from there, so that no
--- module that we made is refused by 11
+-- not refused, 9 does not refuse the traces either; §1.4: every line, byte, run and event leads on from there, so that
+-- no module that we made is refused by 11
 pub record StaysValid : Type 0 where
   pub start : (serial port first second : ℕ) → validModule (startCall serial port first second .after) ≡ true
   pub started : (serial port first second : ℕ) → startCall serial port first second .outcome ≡ Done →

@@ -29,12 +29,13 @@ use Rattle.mnemonic.specs.declared.Register.{Register}
 use Rattle.mnemonic.specs.declared.Register.the-variants.{Standard, Service, Lia, Errors}
 use Rattle.mnemonic.specs.declared.Action.{Action}
 use Rattle.mnemonic.specs.declared.Action.the-variants.{Reset, Clear, Start, Pause, Empty, Trigger}
-use Rattle.status.specs.Bits.{bitOf, withoutBit, meets, flag}
+use Rattle.status.specs.Bits.{bitOf, withoutBit, meets}
 use Rattle.status.specs.Status.{registerOf, withRegister, clearedOf, bitCleared, enableOf, withEnableByte, withEnable}
 use Rattle.status.specs.Status.{allCleared, withLia, otherBits, statusByte}
 use Rattle.status.specs.declared.Registers.{Registers}
 use Rattle.status.specs.declared.Enables.{Enables}
 use Rattle.status.specs.declared.Poll.{Poll}
+use Rattle.status.proofs.Flags.{flag-le, other-lt}
 use Rattle.command.specs.declared.SetArgument.the-variants as set
 use Rattle.command.specs.declared.QueryArgument.{QueryArgument}
 use Rattle.command.specs.declared.QueryArgument.the-variants as query
@@ -314,26 +315,10 @@ now-sized s entry h =
     cond-by (λ v. v < limit) (eqb entry freq)
     (λ e. cond-by (λ v. v < limit) (isInternal (s .settings)) (λ f. kept freq) (λ f. h .external)) (λ e. kept entry)
 
--- a flag is no more than its weight
-flag-le : (t : Bool) (i : ℕ) → flag t i ≤ 2 ^ i
-unfolding flag
-flag-le true i = omega arith
-flag-le false i = omega arith
-
 -- the status byte
 byte-sized : (r : Registers) (e : Enables) (p : Poll) → statusByte r e p < limit
-unfolding statusByte otherBits
-byte-sized r e p =
-    omega (
-      arith,
-      flag-le (p .«at_rest») 0,
-      flag-le (p .idle) 1,
-      flag-le (meets (r .errors) (e .errors)) 2,
-      flag-le (meets (r .lia) (e .lia)) 3,
-      flag-le (p .waiting) 4,
-      flag-le (meets (r .standard) (e .standard)) 5,
-      flag-le (meets (otherBits r e p) (e .service)) 6,
-    )
+unfolding statusByte
+byte-sized r e p = omega (arith, other-lt r e p, flag-le (meets (otherBits r e p) (e .service)) 6)
 
 -- what a status query reads
 status-sized : (s : State) (waiting : Bool) (which : Register) → Sized s → statusOf s waiting which < limit

@@ -1,5 +1,5 @@
--- A run of bytes, byte by byte: what a byte that ends no line does to it, and what is written behind the replies before.
--- Assumes nothing.
+-- A run of bytes, byte by byte: what a byte that ends no line does to it, and what a line writes behind the replies
+-- before it. Assumes nothing.
 use Prim.Native.Nat.{ℕ, suc, _+_, _-_, _<_, _≤_, min}
 use mathlib.Core.Path.{_≡_, refl, sym, ap, _∙_}
 use mathlib.Core.Bool.{Bool, true, false, cond, _&&_, and-true, and-false}
@@ -25,7 +25,8 @@ use Rattle.reply_buffer.specs.After.{Meets}
 use Rattle.line.specs.Line.{lineOf}
 use Rattle.line.proofs.Steps.{part, part-whole, mended}
 use Rattle.lockin.specs.Calls.{withQueue, lineEnd, receivedCall, byteReceived}
-use Rattle.lockin.specs.Run.{Run, repliedLength, firstAnswer, firstLine, writtenBehind, nextByte, isLine, lacksRoom, stopsAt, markBefore, runFrom}
+use Rattle.lockin.specs.Run.{Run, repliedLength, firstAnswer, firstLine, writtenBehind, nextByte, isLine}
+use Rattle.lockin.specs.Run.{lacksRoom, stopsAt, markBefore, runFrom}
 use Rattle.lockin.specs.Parts.{resultOf, runAt, withQuiet, advanced, Behind}
 use Rattle.lockin.proofs.Parts.{within, stored-length}
 use Rattle.lockin.specs.declared.StateResult.{StateResult}
@@ -55,9 +56,14 @@ behind-none n out = take-append-drop n out
 
 -- ---- one byte of a run
 
+-- the step says what the byte b does to every queue of these numbers on the port
+abbrev Step : ℕ → Bool → ℕ → ℕ → Bool → QueueStep → Type 0
+Step len discarding port b mark step =
+    Describes (λ bytes. receivedOf (queueOf bytes len discarding) port b mark) len b step
+
 -- what a byte does by itself, by what it does to the queue's numbers
 pub received-by : (room b : ℕ) (mark : Bool) (m : Module) (one two : List ℕ) (step : QueueStep) →
-    Describes (λ bytes. receivedOf (queueOf bytes (m .queue .len) (m .queue .discarding)) (m .state .installation .port) b mark) (m .queue .len) b step →
+    Step (m .queue .len) (m .queue .discarding) (m .state .installation .port) b mark step →
     let stored = bytesWith (step .stores) (m .queue .len) b (m .queue .bytes) in
     byteReceived room b mark m one two
     ≡ withQueue (queueOf stored (step .len) (step .discarding))
@@ -78,7 +84,8 @@ mark-on mark (b ∷ more) = rw (ne-eqb (suc (length more)) 0 (λ z. omega arith)
 
 pub mark-at : (run : List ℕ) (mark : Bool) (at : ℕ) → at < length run →
     (mark && eqb (at + 1) (length run)) ≡ markBefore mark (drop (at + 1) run)
-mark-at run mark at h = ap (λ t. mark && t) (split (eqb (at + 1) (length run)) last inner) ∙ mark-on mark (drop (at + 1) run)
+mark-at run mark at h =
+    ap (λ t. mark && t) (split (eqb (at + 1) (length run)) last inner) ∙ mark-on mark (drop (at + 1) run)
   where
     left : length (drop (at + 1) run) ≡ length run - (at + 1)
     left = length-drop (at + 1) run
@@ -95,7 +102,7 @@ mark-at run mark at h = ap (λ t. mark && t) (split (eqb (at + 1) (length run)) 
 
 -- a byte that ends no line: the run does not stop before it, and only the queue and the counts are others
 module _ (room b : ℕ) (mark : Bool) (p : Run) (bytes : List ℕ) (q : QuietBytes) (step : QueueStep) (ended : ℕ)
-    (g : Describes (λ bytes. receivedOf (queueOf bytes (q .len) (q .discarding)) (p .after .state .installation .port) b mark) (q .len) b step)
+    (g : Step (q .len) (q .discarding) (p .after .state .installation .port) b mark step)
     (nothing : step .ending ≡ Nothing)
     (count : ended ≡ cond (isEnd (p .after .state .installation .port) b mark) (q .ended + 1) (q .ended)) where
   abbrev here : Run
@@ -130,10 +137,11 @@ module _ (room b : ℕ) (mark : Bool) (p : Run) (bytes : List ℕ) (q : QuietByt
   quiet-more last more marked = rw (← marked, goes-on, quiet-next)
 
 -- a byte at an index of a run that ends no line: the run goes on behind it
-pub quiet-at : (room : ℕ) (run : List ℕ) (last : Bool) (p : Run) (bytes : List ℕ) (q : QuietBytes) (step : QueueStep) (ended port : ℕ) (mark : Bool) →
+pub quiet-at : (room : ℕ) (run : List ℕ) (last : Bool) (p : Run) (bytes : List ℕ) (q : QuietBytes) (step : QueueStep)
+    (ended port : ℕ) (mark : Bool) →
     p .after .state .installation .port ≡ port → q .taken < length run →
     mark ≡ markBefore last (drop (q .taken + 1) run) →
-    Describes (λ bytes. receivedOf (queueOf bytes (q .len) (q .discarding)) port (getD run (q .taken) 0) mark) (q .len) (getD run (q .taken) 0) step →
+    Step (q .len) (q .discarding) port (getD run (q .taken) 0) mark step →
     step .ending ≡ Nothing → ended ≡ cond (isEnd port (getD run (q .taken) 0) mark) (q .ended + 1) (q .ended) →
     runFrom room last (drop (q .taken) run) (withQuiet bytes q p)
     ≡ runFrom room last (drop (q .taken + 1) run)
@@ -142,7 +150,8 @@ pub quiet-at : (room : ℕ) (run : List ℕ) (last : Bool) (p : Run) (bytes : Li
 quiet-at room run last p bytes q step ended port mark same inside marked g nothing count =
     let b = getD run (q .taken) 0 in
     rw (at-next run (q .taken) inside)
-    (quiet-more room b mark p bytes q step ended (rw (same) g) nothing (rw (same) count) last (drop (q .taken + 1) run) marked)
+    (quiet-more room b mark p bytes q step ended (rw same g) nothing (rw same count) last (drop (q .taken + 1) run)
+    marked)
 
 -- the lines that ended are no more than the bytes taken
 pub counted : {ended before taken : ℕ} (t : Bool) → ended ≡ cond t (before + 1) before → before ≤ taken →
@@ -198,7 +207,7 @@ ends-behind n e text s one two {r = r} {new = new} {old = old} h same m =
 
 module _ (b : ℕ) (mark : Bool) (p : RunProgress) (one two reply : List ℕ) (step : QueueStep) {bytes : List ℕ} {end : ℕ}
     (long : length (p .after .queue .bytes) ≡ lineLimit)
-    (g : Describes (λ bytes. receivedOf (queueOf bytes (p .after .queue .len) (p .after .queue .discarding)) (p .after .state .installation .port) b mark) (p .after .queue .len) b step)
+    (g : Step (p .after .queue .len) (p .after .queue .discarding) (p .after .state .installation .port) b mark step)
     (stored : bytes ≡ bytesWith (step .stores) (p .after .queue .len) b (p .after .queue .bytes))
     (ends : end ≡ min (step .line) lineLimit) where
   -- the line that ends, as the code has it

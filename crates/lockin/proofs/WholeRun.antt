@@ -3,7 +3,7 @@
 use Prim.Native.Nat.{ℕ, _+_, _-_, _<_, _≤_}
 use mathlib.Core.Path.{_≡_, refl, sym, ap, ap₂, _∙_}
 use mathlib.Core.Bool.{Bool, true, false, cond}
-use mathlib.Core.List.{List, [], _∷_, _++_, append-nil, append-assoc}
+use mathlib.Core.List.{List, [], _∷_, _++_, append-assoc}
 use native.Mathlib.Omega.{arith}
 use borrow.Author.Tests.{leb-true, leb-false}
 use lib.Dec.{leb}
@@ -20,8 +20,8 @@ use Rattle.reply_buffer.proofs.After.{silent-meets}
 use Rattle.module.specs.Module.{guardOf}
 use Rattle.module.specs.declared.Module.{Module}
 use Rattle.lockin.specs.Calls.{guarded, receivedCall, byteReceived}
-use Rattle.lockin.specs.Run.{Run, repliedLength, writtenBehind, nextByte, lacksRoom, stopsAt, markBefore, runFrom, startRun}
-use Rattle.lockin.specs.Run.{runReport, refusedRun, runCall, runResult, runNumbersOf}
+use Rattle.lockin.specs.Run.{Run, repliedLength, writtenBehind, nextByte, lacksRoom, stopsAt, markBefore}
+use Rattle.lockin.specs.Run.{runFrom, startRun, runReport, refusedRun, runCall, runResult, runNumbersOf}
 use Rattle.lockin.specs.Parts.{tallyAt, runAt, progressOf, resultAt, NextByte}
 use Rattle.lockin.specs.declared.byte_run.RunProgress.{RunProgress}
 use Rattle.lockin.specs.declared.byte_run.RunReport.{RunReport}
@@ -93,7 +93,9 @@ module _ (room : ℕ) (old : List ℕ) where
   onto-next : (b : ℕ) (mark : Bool) (r : Run) → repliedLength r ≤ length (r .out) →
       nextByte room b mark (onto old r) ≡ onto old (nextByte room b mark r)
   unfolding nextByte
-  onto-next b mark r h = rw (behind-over (repliedLength r) (byteReceived (room - repliedLength r) b mark (r .after) (r .one) (r .two) .out) (r .out) old h)
+  onto-next b mark r h =
+      let c = byteReceived (room - repliedLength r) b mark (r .after) (r .one) (r .two) in
+      rw (behind-over (repliedLength r) (c .out) (r .out) old h)
 
   -- a function of one of two values
   push : {A B : Type 0} (f : A → B) (t : Bool) (a b : A) → cond t (f a) (f b) ≡ f (cond t a b)
@@ -110,7 +112,8 @@ module _ (room : ℕ) (old : List ℕ) where
       let marked = markBefore mark more in
       let rest : Run = runFrom room mark more (nextByte room b marked (onto old r)) in
       ap (λ t. cond t (onto old r) rest) (onto-stops b marked r)
-      ∙ ap (λ x. cond (stopsAt room b marked r) (onto old r) x) (ap (runFrom room mark more) (onto-next b marked r h) ∙ same)
+      ∙ ap (λ x. cond (stopsAt room b marked r) (onto old r) x)
+      (ap (runFrom room mark more) (onto-next b marked r h) ∙ same)
       ∙ push (onto old) (stopsAt room b marked r) r (runFrom room mark more (nextByte room b marked r))
 
   onto-none : (mark : Bool) (r : Run) → runFrom room mark [] (onto old r) ≡ onto old (runFrom room mark [] r)
@@ -188,19 +191,22 @@ module _ {run : List ℕ} {mark : Bool} {one₀ two₀ reply₀ : List ℕ} {p�
         ∙ ap (λ l. runFrom (length reply₀) mark l (runAt q one two reply)) (at-next run (q .taken) h)
         ∙ rw (step .stops, v .long, is-marked, byte)
 
+    -- the run after the byte, by whether it stops before it
+    after-byte : (t : Bool) → stopped ≡ t →
+        runAt n one′ two′ reply′
+        ≡ cond t (runAt q one two reply) (nextByte (length reply) b marked (runAt q one two reply))
+    after-byte t e =
+        step .run
+        ∙ ap (λ t. cond t (runAt q one two reply) (nextByte (length reply) b marked (runAt q one two reply))) e
+
     pub stopped-run : stopped ≡ true →
         runFrom (length reply₀) mark run (runAt p₀ one₀ two₀ reply₀) ≡ runAt n one′ two′ reply′
-    stopped-run e =
-        let as-it-was : runAt n one′ two′ reply′ ≡ runAt q one two reply = step .run ∙ ap (λ t. cond t (runAt q one two reply) (nextByte (length reply) b marked (runAt q one two reply))) e in
-        rw (as-it-was, turned, e)
+    stopped-run e = rw (after-byte true e, turned, e)
 
     module _ (goes : stopped ≡ false) where
       -- the run with the byte
       with-byte : runAt n one′ two′ reply′ ≡ nextByte (length reply₀) b marked (runAt q one two reply)
-      with-byte =
-          step .run
-          ∙ ap (λ t. cond t (runAt q one two reply) (nextByte (length reply) b marked (runAt q one two reply))) goes
-          ∙ ap (λ k. nextByte k b marked (runAt q one two reply)) (v .long)
+      with-byte = after-byte false goes ∙ ap (λ k. nextByte k b marked (runAt q one two reply)) (v .long)
 
       pub one-more : n .taken ≡ q .taken + 1
       unfolding nextByte

@@ -1,5 +1,5 @@
--- What the public calls do (§1.1): Start, Calls and Run, which their promises cite; Parts, which only inner functions are
--- held to.
+-- What the public calls do (§1.1): Start, Calls and Run, which their promises cite; Parts, which only inner functions
+-- are held to.
 pub mod Start
 pub mod Calls
 pub mod Run

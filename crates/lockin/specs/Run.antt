@@ -91,7 +91,7 @@ lacksRoom left b mark m one two =
     isLine (received .ending)
     && lineOf left (waitingBytes (received .queue)) (m .state) one two .report .dropped
 
--- §2.10: the run stops before such a byte, unless its line is the first to end in the run
+-- §2.10: the run stops before such a byte, if a line has ended in the run before it
 unfoldable pub stopsAt : ℕ → ℕ → Bool → Run → Bool
 stopsAt room b mark r =
     ltb 0 (r .report .ended) && lacksRoom (room - repliedLength r) b mark (r .after) (r .one) (r .two)
@@ -122,7 +122,7 @@ runReport t = record { taken = t .taken; line = t .line; report = t .report }
 abbrev pub reported : Run → After Module RunReport
 reported r = record { after = r .after; one = r .one; two = r .two; out = r .out; report = runReport (r .report) }
 
--- §1.6: 11 and 9 take no byte, at line and place 0
+-- §1.6: a run that 11 or 9 refuses: it takes nothing, and there is no line and no place
 abbrev pub refusedRun : Refusal → RunReport
 refusedRun r = record { taken = 0; line = 0; report = refusedWhole r }
 

@@ -73,8 +73,8 @@ struct RunStep {
     progress: RunProgress,
 }
 
-// A queue after bytes of a run of which none ended a line that can run, but for its bytes; how many bytes of the run are
-// then taken, and how many lines ended.
+// A queue after bytes of a run of which none ended a line that can run, but for its bytes; how many bytes of the run
+// are then taken, and how many lines ended.
 struct QuietBytes {
     len: usize,
     discarding: bool,
@@ -258,7 +258,8 @@ fn end_behind(
 ) -> StateResult
     requires { ⌜ (length (now text) ≤ lineLimit) × (written ≤ length (now reply)) ⌝ }
     ensures { λ r. ⌜ Behind written
-        (lineEnd ending (length (now (reply .entry)) - written) (now (text .entry)) s (now (one .entry)) (now (two .entry)))
+        (lineEnd ending (length (now (reply .entry)) - written) (now (text .entry)) s
+        (now (one .entry)) (now (two .entry)))
         r (now (one .exit)) (now (two .exit)) (now (reply .exit)) (now (reply .entry)) ⌝ }
     ensures { λ r. ⌜ written + r .report .length ≤ length (now (reply .exit)) ⌝ }
 {
@@ -329,7 +330,8 @@ fn run_bytes(
     reply: &mut [u8],
 ) -> RunProgress
     ensures { λ r. ⌜ Meets progressOf
-        (runFrom (length (now (reply .entry))) mark (now (run .entry)) (startRun m (now (one .entry)) (now (two .entry))))
+        (runFrom (length (now (reply .entry))) mark (now (run .entry))
+        (startRun m (now (one .entry)) (now (two .entry))))
         r (now (one .exit)) (now (two .exit)) (now (reply .exit)) (now (reply .entry)) ⌝ }
 {
     let mut p = RunProgress {
@@ -403,7 +405,7 @@ pub fn run_numbers_of(report: RunReport) -> RunNumbers
     }
 }
 
-// A run of bytes, of which the last may carry an end mark, and one reply room for all its lines.
+// A run of bytes, with the end mark of its last byte, and one reply room for all its lines.
 pub fn take_run(
     m: Module,
     bytes: &[u8],

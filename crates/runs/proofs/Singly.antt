@@ -2,7 +2,7 @@
 -- not the run, refuse none of these calls. Assumes nothing.
 use Prim.Native.Nat.{ℕ, suc, _+_, _-_, _<_, _≤_}
 use mathlib.Core.Path.{_≡_, refl, sym, ap, subst, _∙_}
-use mathlib.Core.Bool.{Bool, true, false, cond, _&&_, false≢true}
+use mathlib.Core.Bool.{Bool, true, false, false≢true}
 use mathlib.Core.List.{List, [], _∷_, _++_}
 use native.Mathlib.Numerals.{unary-clauses}
 use native.Mathlib.Omega.{arith}
@@ -25,7 +25,7 @@ use Rattle.lockin.specs.Run.{markBefore, runFrom, startRun, reported, runCall}
 use Rattle.lockin.proofs.NextByte.{told-within}
 use Rattle.lockin.proofs.WholeRun.{next-kept}
 use Rattle.invariant.proofs.StaysValid.{stays-valid}
-use Rattle.runs.specs.Singly.{Fed, unfed, fedWith, Stops, Taken, whole, stopped, next, SameAsSingly, RunsAreBytes}
+use Rattle.runs.specs.Singly.{Fed, fedWith, Stops, Taken, whole, stopped, next, SameAsSingly, RunsAreBytes}
 
 -- ---- a run as single bytes
 
@@ -174,7 +174,8 @@ module _ (room : ℕ) (mark : Bool) where
   follows (b ∷ more) r g =
       let marked = markBefore mark more in
       split (stopsAt room b marked r)
-      (λ e. rw (run-stops b more r e) (no-byte (b ∷ more) r g (stopped b more (fedOf r) (stops-here room r g b marked e))))
+      (λ e. rw (run-stops b more r e)
+      (no-byte (b ∷ more) r g (stopped b more (fedOf r) (stops-here room r g b marked e))))
       (λ e. rw (run-goes b more r e)
       (with-byte b more r _ g e (follows more (nextByte room b marked r) (good-next room r g b marked))))
 
@@ -248,7 +249,8 @@ module _ (room : ℕ) (bytes : List ℕ) (mark : Bool) (m : Module) (one two : L
       runCall room bytes mark m one two .report .report .answer ≡ Refused refusal p →
       0 < runCall room bytes mark m one two .report .line
   line-told refusal p e =
-      let told : end .report .report .answer ≡ Refused refusal p = sym (ap (λ c. c .report .report .answer) let-run) ∙ e in
+      let told : end .report .report .answer ≡ Refused refusal p =
+      sym (ap (λ c. c .report .report .answer) let-run) ∙ e in
       rw let-run (placed room mark bytes (startRun m one two) (λ i. absurd i) (subst IsRefused (sym told) tt))
 
 pub runs-are-bytes : RunsAreBytes

@@ -1,6 +1,7 @@
--- `lockin::byte_run::next_byte` meets its contract: its parts leave the run with the byte, or as it was. Assumes nothing.
+-- `lockin::byte_run::next_byte` meets its contract: its parts leave the run with the byte, or as it was. Assumes
+-- nothing.
 use Prim.Native.Nat.{ℕ}
-use mathlib.Core.Path.{_≡_, refl, sym, ap, _∙_}
+use mathlib.Core.Path.{_≡_, refl, sym, _∙_}
 use mathlib.Core.List.{List}
 use native.Mathlib.Nat.{sub-zero}
 use native.Mathlib.Omega.{arith}
@@ -68,7 +69,8 @@ count-end-requires c κs =
 
 advance-requires : tie.Need-advance-requires
 advance-requires c κs =
-    let line = c .before .before .before .before .before .before .before .before .before in
+    let left = c .before .before in
+    let line = left .before .before .before .before .before .before .before in
     let stops = line .before .before .before .before .before .before .before in
     let step = stops .before .before .before .before .before .before in
     let start = step .before .before .before .before .before .before in
@@ -82,7 +84,8 @@ advance-requires c κs =
 returns-2 : tie.Need-returns-2
 returns-2 c =
     let counted = c .before in
-    let line = counted .before .before .before .before .before .before .before .before .before in
+    let left = counted .before .before in
+    let line = left .before .before .before .before .before .before .before in
     let stops = line .before .before .before .before .before .before .before in
     let end = stops .before .before .before in
     let step = end .before .before .before in

@@ -1,5 +1,5 @@
 -- `lockin::byte_run::pass_quiet` meets its contract. Assumes nothing.
-use mathlib.Core.Path.{refl, _∙_}
+use mathlib.Core.Path.{refl}
 use borrow.Author.Needs.{needs}
 use Rattle.lockin.specs.Parts.{runAt}
 use Rattle.lockin.proofs.byte_run.pass_quiet.Statement.{statement}

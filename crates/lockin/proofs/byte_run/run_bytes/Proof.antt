@@ -1,6 +1,6 @@
 -- `lockin::byte_run::run_bytes` meets its contract: what is left of the run does what the whole does. Assumes nothing.
 use Prim.Native.Nat.{_+_, _-_, _<_}
-use mathlib.Core.Path.{_≡_, refl, ap, _∙_}
+use mathlib.Core.Path.{refl, _∙_}
 use native.Mathlib.Omega.{arith}
 use lib.ListN.{length}
 use Rattle.lockin.proofs.WholeRun.{OnRun, over, all-taken, stopped-run, one-more, again}

@@ -1,6 +1,6 @@
 -- `lockin::byte_run::stops` meets its contract: by whether a line ended before, and by what ends. Assumes nothing.
-use mathlib.Core.Path.{refl, sym, ap, _∙_}
-use mathlib.Core.Bool.{not, Bool·not-not, and-false}
+use mathlib.Core.Path.{sym}
+use mathlib.Core.Bool.{Bool·not-not, and-false}
 use borrow.Author.Needs.{needs}
 use borrow.Author.Tests.{lt-ltb, le-ltb}
 use native.Mathlib.Omega.{arith}
@@ -34,5 +34,5 @@ returns-4 c one two =
 pub stops-spec : {M : Type 1} → statement M
 stops-spec =
     tie.close
-    (tie.spec returns (λ c. search needs) (λ c. search needs) (λ c κs. search needs) (λ c. search needs) returns-2 returns-3
-    returns-4)
+    (tie.spec returns (λ c. search needs) (λ c. search needs) (λ c κs. search needs) (λ c. search needs) returns-2
+    returns-3 returns-4)
