@@ -1,5 +1,5 @@
 -- The points stored, over every call: what is held of the history, and what is replied of it. Assumes nothing.
-use Prim.Native.Nat.{ℕ}
+use Prim.Native.Nat.{ℕ, _-_}
 use native.Mathlib.Omega.{arith}
 use mathlib.Core.Bool.{Bool, true, false, cond, and-eq-true-iff}
 use mathlib.Core.List.{List, []}
@@ -21,7 +21,7 @@ use Rattle.queue.specs.Queue as queue
 use Rattle.queue.specs.declared.Queue.{Queue}
 use Rattle.queue.specs.declared.LineEnd.{LineEnd}
 use Rattle.queue.specs.declared.LineEnd.the-variants as ending
-use Rattle.reply_buffer.specs.After.{After}
+use Rattle.reply_buffer.specs.After.{After, silent}
 use Rattle.event.specs.Event.{eventOf}
 use Rattle.event.specs.declared.Event.{Event}
 use Rattle.state.proofs.Sound.{sound, capacity-known}
@@ -33,7 +33,10 @@ use Rattle.lockin.specs.Calls.{withQueue, guarded, refusedWhole, lineEnd, whole
 use Rattle.lockin.specs.Calls.{receivedCall, byteReceived, byteCall, eventCall}
 use Rattle.points.specs.Points.{History, Holds, unlessRefused, historyAfterLine, afterLineCall, afterEnded}
 use Rattle.points.specs.Points.{afterByteCall, historyAfterEvent, afterEventCall, Stored, byStart, byLine, byByte}
-use Rattle.points.specs.Points.{byEvent, PointsKept, traceQuery, RepliesPoints}
+use Rattle.lockin.specs.Run.{markBefore, refusedRun, runCall}
+use Rattle.runs.specs.Singly.{Fed, unfed, fedWith, Taken, whole, stopped, next}
+use Rattle.runs.proofs.Singly.{runs-are-bytes}
+use Rattle.points.specs.Points.{byEvent, StoredSome, PointsKept, traceQuery, RepliesPoints}
 use Rattle.invariant.proofs.StaysValid.{passes, start-by}
 use Rattle.points.proofs.History.{Fits, emptied-holds, event-holds, marked-holds, line-holds}
 use Rattle.demand2.proofs.Asked.{asked-call, asked-refused}
@@ -137,6 +140,46 @@ made-holds _ _ _ _ (byByte room b mark history m one two k) =
 made-holds _ _ _ _ (byEvent e history m one two k) =
     event-kept history m one two (made-holds history m one two k) e
 
+-- ---- runs
+
+-- a run that 11 or 9 refuses
+run-refused : (room : ℕ) (bytes : List ℕ) (mark : Bool) (m : Module) (one two : List ℕ) (r : Refusal) →
+    guardOf m (length one) (length two) ≡ Refused r →
+    runCall room bytes mark m one two ≡ silent (refusedRun r) m one two
+unfolding runCall guarded
+run-refused room bytes mark m one two r g = rw g
+
+-- bytes handed over one by one lead from stored to stored
+taken-stored : (room : ℕ) (mark : Bool) (bytes : List ℕ) (f : Fed) (n : ℕ) (end : Fed) →
+    Taken room mark bytes f n end → StoredSome (f .after) (f .one) (f .two) →
+    StoredSome (end .after) (end .one) (end .two)
+unfolding fedWith
+taken-stored room mark _ _ _ _ (whole f) k = k
+taken-stored room mark _ _ _ _ (stopped b more f s) k = k
+taken-stored room mark _ _ _ _ (next b more f n end goes rest) k =
+    let marked = markBefore mark more in
+    taken-stored room mark more (fedWith room b marked f) n end rest
+    (record {
+      history = _;
+      stored = byByte (room - length (f .replies)) b marked (k .history) (f .after) (f .one) (f .two) (k .stored);
+    })
+
+run-stored : (room : ℕ) (bytes : List ℕ) (mark : Bool) (history : History) (m : Module) (one two : List ℕ) →
+    length (m .queue .bytes) ≡ queue.lineLimit → Stored history m one two →
+    let c = runCall room bytes mark m one two in
+    StoredSome (c .after) (c .one) (c .two)
+run-stored room bytes mark history m one two long k = by (guardOf m (length one) (length two)) refl where
+  here : StoredSome m one two
+  here = record { history = history; stored = k }
+
+  by : (o : Outcome) → guardOf m (length one) (length two) ≡ o →
+      let c = runCall room bytes mark m one two in StoredSome (c .after) (c .one) (c .two)
+  by Done g =
+      let same = runs-are-bytes .same room bytes mark m one two long g in
+      rw (same .after, same .first, same .second)
+      (taken-stored room mark bytes (unfed m one two) _ (same .fed) (same .taken) here)
+  by (Refused r) g = rw (run-refused room bytes mark m one two r g) here
+
 pub points-kept : PointsKept
 points-kept =
     record {
@@ -145,6 +188,7 @@ points-kept =
       byte = λ room b mark history m one two h. byte-kept history m one two h room b mark;
       event = λ e history m one two h. event-kept history m one two h e;
       made = made-holds;
+      run = run-stored;
     }
 
 -- ---- replies

@@ -44,6 +44,7 @@ use Rattle.lockin.specs.Start.{startCall}
 use Rattle.module.specs.Module.{guardOf}
 use Rattle.module.specs.declared.Module.{Module}
 use Rattle.lockin.specs.Calls.{lineCall, byteCall, eventCall}
+use Rattle.lockin.specs.Run.{runCall}
 use Rattle.demand2.specs.Demand2.{joined, answered}
 
 -- ---- what a call does to the history
@@ -181,8 +182,13 @@ pub data Stored : History → Module → List ℕ → List ℕ → Type 0 where
       Stored (afterEventCall e m one two history)
       (eventCall e m one two .after) (eventCall e m one two .one) (eventCall e m one two .two)
 
+-- §7.3: a module with its traces that was so made, whatever its history
+pub record StoredSome (m : Module) (one two : List ℕ) : Type 0 where
+  pub history : History
+  pub stored : Stored history m one two
+
 -- §7.3, §7.4 and §7.9: a start, refused or not, holds the empty history, and every line, byte and event, refused or
--- not, leads on from there
+-- not, leads on from there; §2.9: so does every run, whose bytes do what they do one by one
 pub record PointsKept : Type 0 where
   pub start : (serial port first second : ℕ) (one two : List ℕ) →
       Holds [] (startCall serial port first second .after .state) one two
@@ -200,6 +206,10 @@ pub record PointsKept : Type 0 where
       Holds (afterEventCall e m one two history) (c .after .state) (c .one) (c .two)
   pub made : (history : History) (m : Module) (one two : List ℕ) →
       Stored history m one two → Holds history (m .state) one two
+  pub run : (room : ℕ) (bytes : List ℕ) (mark : Bool) (history : History) (m : Module) (one two : List ℕ) →
+      length (m .queue .bytes) ≡ lineLimit → Stored history m one two →
+      let c = runCall room bytes mark m one two in
+      StoredSome (c .after) (c .one) (c .two)
 
 -- ---- what is replied
 
