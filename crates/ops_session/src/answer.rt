@@ -7,6 +7,9 @@ use lockin::RunReport;
 use terminal::write_byte;
 use terminal::write_number_after;
 
+// The bytes of an answer that wait until they are written out: all of most answers, and few enough to clear at each.
+const ANSWER: usize = 1024;
+
 // What a call reports.
 pub enum CallReport {
     // Of a line or a byte.
@@ -27,7 +30,7 @@ pub fn report_done() {
 
 // Answers by a text and a refusal's number.
 pub fn report_number(text: &[u8], number: u8) {
-    let mut out = io::buffer();
+    let mut out = [0u8; ANSWER];
     let end = write_number_after(&mut out, 0, text, number as u32);
     terminal::end_line(&mut out, end);
 }
@@ -65,7 +68,7 @@ fn write_report(out: &mut [u8], report: CallReport) -> usize {
 
 // Answers a line, a byte or a run: its numbers, and the whole reply buffer.
 pub fn report_reply(report: CallReport, reply: &[u8]) {
-    let mut out = io::buffer();
+    let mut out = [0u8; ANSWER];
     let numbers = write_report(&mut out, report);
     let space = write_byte(&mut out, numbers, b' ');
     let end = terminal::write_hex_bytes(&mut out, space, reply);
@@ -76,7 +79,7 @@ pub fn report_reply(report: CallReport, reply: &[u8]) {
 pub fn report_poll(m: Module) {
     let polled = lockin::poll(m);
     let outcome = polled.outcome;
-    let mut out = io::buffer();
+    let mut out = [0u8; ANSWER];
     let refusal = write_number_after(&mut out, 0, b"S ", lockin::number_of(outcome) as u32);
     let status = write_next(&mut out, refusal, polled.status as u64);
     terminal::end_line(&mut out, status);
