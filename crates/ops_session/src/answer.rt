@@ -7,8 +7,11 @@ use lockin::RunReport;
 use terminal::write_byte;
 use terminal::write_number_after;
 
-// The bytes of an answer that wait until they are written out: all of most answers, and few enough to clear at each.
-const ANSWER: usize = 1024;
+// The bytes of a short answer's buffer: few, for a buffer is cleared at each answer.
+const SHORT_ANSWER: usize = 512;
+
+// The most bytes of a reply buffer whose answer is short: two digits a byte, and at most 64 bytes before them.
+const SHORT_REPLY: usize = 224;
 
 // What a call reports.
 pub enum CallReport {
@@ -30,7 +33,7 @@ pub fn report_done() {
 
 // Answers by a text and a refusal's number.
 pub fn report_number(text: &[u8], number: u8) {
-    let mut out = [0u8; ANSWER];
+    let mut out = [0u8; SHORT_ANSWER];
     let end = write_number_after(&mut out, 0, text, number as u32);
     terminal::end_line(&mut out, end);
 }
@@ -66,20 +69,30 @@ fn write_report(out: &mut [u8], report: CallReport) -> usize {
     }
 }
 
-// Answers a line, a byte or a run: its numbers, and the whole reply buffer.
+// Writes the answer to a line, a byte or a run: its numbers, and the whole reply buffer.
+fn write_answer(out: &mut [u8], report: CallReport, reply: &[u8]) {
+    let numbers = write_report(out, report);
+    let space = write_byte(out, numbers, b' ');
+    let end = terminal::write_hex_bytes(out, space, reply);
+    terminal::end_line(out, end);
+}
+
+// Answers a line, a byte or a run.
 pub fn report_reply(report: CallReport, reply: &[u8]) {
-    let mut out = [0u8; ANSWER];
-    let numbers = write_report(&mut out, report);
-    let space = write_byte(&mut out, numbers, b' ');
-    let end = terminal::write_hex_bytes(&mut out, space, reply);
-    terminal::end_line(&mut out, end);
+    if reply.len() <= SHORT_REPLY {
+        let mut out = [0u8; SHORT_ANSWER];
+        write_answer(&mut out, report, reply);
+        return;
+    }
+    let mut out = io::buffer();
+    write_answer(&mut out, report, reply);
 }
 
 // Answers a serial poll.
 pub fn report_poll(m: Module) {
     let polled = lockin::poll(m);
     let outcome = polled.outcome;
-    let mut out = [0u8; ANSWER];
+    let mut out = [0u8; SHORT_ANSWER];
     let refusal = write_number_after(&mut out, 0, b"S ", lockin::number_of(outcome) as u32);
     let status = write_next(&mut out, refusal, polled.status as u64);
     terminal::end_line(&mut out, status);
