@@ -11,11 +11,13 @@ const PORT: u32 = state::GPIB as u32;
 // The length of each trace.
 const CAPACITY: usize = 8;
 
-// Room for all replies of a line: it has at most 256 bytes, so fewer than 43 queries of five bytes or more with a `;`
-// between them, and a reply has at most 32 bytes, those of eight points.
+// Room for all replies of any one line: it has at most 256 bytes, so fewer than 43 queries of five bytes or more with a
+// `;` between them, and a reply has at most 32 bytes, those of eight points. A run writes the replies of many lines, and
+// stops before a line whose replies do not fit behind them.
 const ROOM: usize = 8192;
 
-// Hands bytes without an end mark to the module. The replies of a line are written as it ends.
+// Hands bytes without an end mark to the module, as one run. Where it stops, its replies are written, and what is left
+// is a run of its own; none comes behind a run that takes nothing.
 fn run_chunk(
     m: Module,
     chunk: &[u8],
@@ -24,13 +26,19 @@ fn run_chunk(
     reply: &mut [u8],
 ) -> Module {
     let mut latest = m;
-    let mut i = 0;
-    while i < chunk.len() {
-        let called = lockin::take_byte(latest, chunk[i], false, one, two, reply);
-        let report = called.report;
-        latest = called.after;
-        terminal::flush(reply, report.length);
-        i += 1;
+    let mut at = 0;
+    while at < chunk.len() {
+        let ran = lockin::take_run(latest, &chunk[at..], false, one, two, reply);
+        let taken = ran.report.taken;
+        latest = ran.after;
+        terminal::flush(reply, ran.report.report.length);
+        if taken == 0 {
+            return latest;
+        }
+        if chunk.len() - at <= taken {
+            return latest;
+        }
+        at += taken;
     }
     latest
 }

@@ -7,19 +7,19 @@ use event::Event;
 use terminal::Number;
 
 // The names of the operations.
-const NAMES: [u8; 75] =
-    *b"start line byte pair tick trigger measured raise poke dump check poll alter";
+const NAMES: [u8; 79] =
+    *b"start line byte run pair tick trigger measured raise poke dump check poll alter";
 
 // The kinds of the arguments of each operation but `alter`, `ARGUMENTS` letters for each: n is a number, s a trace's
 // length, r the length of a reply buffer, b a byte as a number, m an end mark, t a trace, h a byte in hex, w a word in
 // hex, x bytes in hex, and a space no argument.
-const KINDS: [u8; 48] = *b"nnssxr  hmr ww          n   bb  tnw     nx      ";
+const KINDS: [u8; 52] = *b"nnssxr  hmr xmr ww          n   bb  tnw     nx      ";
 
 // The most arguments that an operation has.
 const ARGUMENTS: usize = 4;
 
 // The index of `alter` among the names: the last one.
-const ALTER: usize = 12;
+const ALTER: usize = 13;
 
 // The largest byte.
 const LAST_BYTE: u32 = u8::MAX as u32;
@@ -41,6 +41,8 @@ pub enum Operation {
     Line(usize, usize),
     // A byte: whether it carries the end mark, and how many bytes the reply buffer has.
     Byte(u8, bool, usize),
+    // A run of bytes: how many they are, whether the last one carries the end mark, and how many the reply buffer has.
+    Run(usize, bool, usize),
     // An event.
     Event(Event),
     // A word for a slot of trace 1 or 2.
@@ -109,7 +111,7 @@ fn decode_argument(text: &[u8], start: usize, kind: u8, bytes: &mut [u8]) -> Ope
 
 // The arguments of the operation whose name has an index, the first of which starts at an index of the text.
 fn decode_arguments(name: usize, text: &[u8], start: usize, bytes: &mut [u8]) -> Arguments
-    requires { ⌜ name < 12 ⌝ }
+    requires { ⌜ name < 13 ⌝ }
 {
     let kinds = KINDS;
     let mut values = [0u32; ARGUMENTS];
@@ -153,19 +155,21 @@ fn operation_of(name: usize, v: [u32; ARGUMENTS]) -> Operation {
         0 => Operation::Start(v[0], v[1], v[2] as usize, v[3] as usize),
         1 => Operation::Line(v[0] as usize, v[1] as usize),
         2 => Operation::Byte((v[0] % 256) as u8, v[1] == 1, v[2] as usize),
-        3 => Operation::Event(Event::Latest(v[0], v[1])),
-        4 => Operation::Event(Event::Tick),
-        5 => Operation::Event(Event::Trigger),
-        6 => Operation::Event(Event::Measured(v[0])),
-        7 => Operation::Event(Event::Raised((v[0] % 256) as u8, (v[1] % 256) as u8)),
-        8 => poke_of(v[0], v[1], v[2]),
-        9 => Operation::Dump,
-        10 => Operation::Check(v[0], v[1] as usize),
+        3 => Operation::Run(v[0] as usize, v[1] == 1, v[2] as usize),
+        4 => Operation::Event(Event::Latest(v[0], v[1])),
+        5 => Operation::Event(Event::Tick),
+        6 => Operation::Event(Event::Trigger),
+        7 => Operation::Event(Event::Measured(v[0])),
+        8 => Operation::Event(Event::Raised((v[0] % 256) as u8, (v[1] % 256) as u8)),
+        9 => poke_of(v[0], v[1], v[2]),
+        10 => Operation::Dump,
+        11 => Operation::Check(v[0], v[1] as usize),
         _ => Operation::Poll,
     }
 }
 
-// The operation that a text asks for. The bytes of a line, a script or a queue are stored at the start of a buffer.
+// The operation that a text asks for. The bytes of a line, a run, a script or a queue are stored at the start of a
+// buffer.
 pub fn decode_operation(text: &[u8], bytes: &mut [u8]) -> Operation {
     let names = NAMES;
     let n = split::span_of(text, b' ');

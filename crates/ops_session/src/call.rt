@@ -1,4 +1,5 @@
 // The calls on a module: each writes its answer and gives the module after it. And somebody else's write to a trace.
+use crate::answer::CallReport;
 use crate::answer::report_done;
 use crate::answer::report_number;
 use crate::answer::report_reply;
@@ -6,6 +7,7 @@ use crate::reject;
 use lockin::Event;
 use lockin::LineResult;
 use lockin::Module;
+use lockin::RunResult;
 
 // What a call hands to the module.
 pub enum CallInput {
@@ -13,55 +15,85 @@ pub enum CallInput {
     Line,
     // A byte, and whether it carries the end mark.
     Byte(u8, bool),
+    // A run of bytes: whether the last one carries the end mark.
+    Run(bool),
 }
 
-// Hands a line or a byte to the module.
-fn call_module(
-    m: Module,
-    input: CallInput,
-    line: &[u8],
-    one: &mut [u32],
-    two: &mut [u32],
-    reply: &mut [u8],
-) -> LineResult {
-    match input {
-        CallInput::Line => lockin::take_line(m, line, one, two, reply),
-        CallInput::Byte(b, mark) => lockin::take_byte(m, b, mark, one, two, reply),
+// A call: the module after it, and what it reports.
+struct CallResult {
+    after: Module,
+    report: CallReport,
+}
+
+// What a line or a byte gives.
+fn of_line(called: LineResult) -> CallResult {
+    let after = called.after;
+    let report = called.report;
+    CallResult {
+        after,
+        report: CallReport::Line(report),
     }
 }
 
-// Hands a line or a byte to the module, and writes the answer.
+// What a run gives.
+fn of_run(ran: RunResult) -> CallResult {
+    let after = ran.after;
+    let report = ran.report;
+    CallResult {
+        after,
+        report: CallReport::Run(report),
+    }
+}
+
+// Hands a line, a byte or a run to the module.
+fn call_module(
+    m: Module,
+    input: CallInput,
+    bytes: &[u8],
+    one: &mut [u32],
+    two: &mut [u32],
+    reply: &mut [u8],
+) -> CallResult {
+    match input {
+        CallInput::Line => of_line(lockin::take_line(m, bytes, one, two, reply)),
+        CallInput::Byte(b, mark) => of_line(lockin::take_byte(m, b, mark, one, two, reply)),
+        CallInput::Run(mark) => of_run(board::take_run(m, bytes, mark, one, two, reply)),
+    }
+}
+
+// Hands a line, a byte or a run to the module, and writes the answer.
 fn call_and_report(
     m: Module,
     input: CallInput,
-    line: &[u8],
+    bytes: &[u8],
     one: &mut [u32],
     two: &mut [u32],
     reply: &mut [u8],
 ) -> Module {
-    let called = call_module(m, input, line, one, two, reply);
-    report_reply(called.report, reply);
+    let called = call_module(m, input, bytes, one, two, reply);
+    let report = called.report;
+    report_reply(report, reply);
     called.after
 }
 
-// Hands a line or a byte to the module, with a reply buffer of `room` bytes.
+// Hands a line, a byte or a run to the module, with a reply buffer of `room` bytes.
 pub fn run_call(
     m: Module,
     input: CallInput,
-    line: &[u8],
+    bytes: &[u8],
     room: usize,
     one: &mut [u32],
     two: &mut [u32],
 ) -> Module {
     if room <= ops_protocol::SMALL_REPLY {
         let mut reply = ops_protocol::small_reply_buffer();
-        return call_and_report(m, input, line, one, two, &mut reply[0..room]);
+        return call_and_report(m, input, bytes, one, two, &mut reply[0..room]);
     }
     if (ops_protocol::REPLY_MOST as usize) < room {
         return reject(m);
     }
     let mut reply = ops_protocol::reply_buffer();
-    call_and_report(m, input, line, one, two, &mut reply[0..room])
+    call_and_report(m, input, bytes, one, two, &mut reply[0..room])
 }
 
 // Hands an event to the module, and writes the answer.

@@ -83,6 +83,14 @@ fn run_on_slots(
             one,
             two,
         ),
+        Operation::Run(len, mark, room) => call::run_call(
+            m,
+            CallInput::Run(mark),
+            terminal::first_bytes(bytes, len),
+            room,
+            one,
+            two,
+        ),
         Operation::Event(e) => call::run_event(m, e, one, two),
         Operation::Alter(field, value) => {
             answer::report_done();

@@ -1,5 +1,6 @@
 // Bytes and numbers in lower-case hex.
-ghost use Prim.Native.Nat.{_≤_};
+ghost use Prim.Native.Nat.{_+_, _*_, _≤_, _<_};
+ghost use lib.ListN.{length};
 use crate::field::HEX;
 use crate::field::Number;
 use crate::field::decode_number;
@@ -80,10 +81,35 @@ fn write_hex_byte(out: &mut [u8], at: usize, b: u8) -> usize {
     write_byte(out, second, digit_of(b))
 }
 
+// Stores a byte as two hex digits, at an index and behind it.
+fn store_hex_byte(out: &mut [u8], at: usize, b: u8)
+    requires { ⌜ (at < length (now out)) × (at + 1 < length (now out)) ⌝ }
+{
+    out[at] = digit_of(b / 16);
+    out[at + 1] = digit_of(b);
+}
+
+// Stores bytes in hex from an index on, where there is room for all of them, and gives where they end.
+fn store_hex_bytes(out: &mut [u8], at: usize, bytes: &[u8]) -> usize
+    requires { ⌜ at + 2 * length (now bytes) ≤ length (now out) ⌝ }
+{
+    let mut i = 0;
+    while i < bytes.len() {
+        store_hex_byte(out, at + 2 * i, bytes[i]);
+        i += 1;
+    }
+    at + 2 * bytes.len()
+}
+
 // Writes bytes in hex, `-` where there are none.
 pub fn write_hex_bytes(out: &mut [u8], at: usize, bytes: &[u8]) -> usize {
     if bytes.len() == 0 {
         return write_byte(out, at, b'-');
+    }
+    if at < out.len() {
+        if bytes.len() <= (out.len() - at) / 2 {
+            return store_hex_bytes(out, at, bytes);
+        }
     }
     let mut end = at;
     let mut i = 0;

@@ -8,16 +8,18 @@ use Rattle.bench.proofs.run_chunk.Statement.{statement}
 use Rattle.bench.proofs.run_chunk.Tie as tie
 
 abbrev Inv-loop : tie.InvT-loop
-Inv-loop chunk one₀ two₀ reply₀ latest₀ i₀ one two reply latest i =
+Inv-loop chunk one₀ two₀ reply₀ latest₀ at₀ one two reply latest at =
     (length one ≡ length one₀) × (length two ≡ length two₀) × (length reply ≡ length reply₀)
-    × (i ≤ length chunk) × (length chunk < 2 ^ 64)
+    × (at ≤ length chunk) × (length chunk < 2 ^ 64)
 
 abbrev μ-loop : tie.MeasureT-loop
-μ-loop chunk one₀ two₀ reply₀ latest₀ i₀ one two reply latest i = length chunk - i
+μ-loop chunk one₀ two₀ reply₀ latest₀ at₀ one two reply latest at = length chunk - at
 
 pub run-chunk-spec : {M : Type 1} → statement M
 run-chunk-spec =
     tie.close
-    (tie.spec Inv-loop μ-loop (λ c. search needs) (λ c. search needs) (λ c κs. search needs) (λ c κs. search needs)
+    (tie.spec Inv-loop μ-loop (λ c. search needs) (λ c. search needs) (λ c. search needs) (λ c. search needs)
+    (λ c κs. search needs) (λ c κs. search needs) (λ c. search needs) (λ c. search needs) (λ c. search needs)
     (λ c. search needs) (λ c. search needs) (λ c. search needs) (λ c. search needs) (λ c. search needs)
-    (λ c. search needs) (λ c. search needs))
+    (λ c. search needs) (λ c. search needs) (λ c. search needs) (λ c. search needs) (λ c. search needs)
+    (λ c. search needs) (λ c. search needs) (λ c. search needs))
