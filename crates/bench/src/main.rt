@@ -12,8 +12,8 @@ const PORT: u32 = state::GPIB as u32;
 const CAPACITY: usize = 8;
 
 // Room for all replies of any one line: it has at most 256 bytes, so fewer than 43 queries of five bytes or more with a
-// `;` between them, and a reply has at most 32 bytes, those of eight points. A run writes the replies of many lines, and
-// stops before a line whose replies do not fit behind them.
+// `;` between them, and a reply has at most 32 bytes, those of eight points. A run writes the replies of many lines,
+// and stops before a line whose replies do not fit behind them.
 const ROOM: usize = 8192;
 
 // Hands bytes without an end mark to the module, as one run. Where it stops, its replies are written, and what is left
