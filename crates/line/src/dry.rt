@@ -77,7 +77,7 @@ fn step(p: Progress, text: &[u8], room: usize) -> Progress
 }
 
 // The commands of a cleaned line, one after the other, up to one that would be refused by 4.
-pub fn run(s: State, text: &[u8], room: usize) -> Progress
+fn run(s: State, text: &[u8], room: usize) -> Progress
     requires { ⌜ length (now text) < 257 ⌝ }
     ensures { λ r. ⌜ ((one two : List ℕ) →
         r ≡ progressOf (runAll room (parts semicolon (now (text .entry))) (startLine s one two))) ⌝ }

@@ -37,8 +37,8 @@ impl RunAnswer {
 }
 
 impl Module {
-    /// Takes bytes singly, the last of them with the end mark. It stops before the byte that would end the first line
-    /// whose replies do not fit what is left of the room, unless that line is the first to end in the run.
+    /// Takes bytes singly, the last of them with the end mark. Once a line has ended, a byte that would end another one
+    /// is taken only if all replies of that line fit behind those before them.
     pub fn run(&mut self, bytes: &[u8], end_mark: bool, room: &mut [u8]) -> RunAnswer {
         let mut run = RunAnswer::default();
         let mut ended = 0;
