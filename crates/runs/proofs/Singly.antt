@@ -38,6 +38,7 @@ fedOf r =
       one = r .one;
       two = r .two;
       replies = take (repliedLength r) (r .out);
+      written = r .out;
       ended = t .ended;
       answer = t .report .answer;
       line = t .line;
@@ -239,6 +240,7 @@ module _ (room : ℕ) (bytes : List ℕ) (mark : Bool) (m : Module) (one two : L
         after = refl;
         first = refl;
         second = refl;
+        room = refl;
         replies = rw many;
         told = sym many;
         answer = refl;

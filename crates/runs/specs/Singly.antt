@@ -14,7 +14,7 @@ use Rattle.module.specs.Module.{guardOf}
 use Rattle.module.specs.declared.Module.{Module}
 use Rattle.lockin.specs.Calls.{byteCall}
 use Rattle.lockin.specs.declared.byte_run.RunReport.{RunReport}
-use Rattle.lockin.specs.Run.{firstAnswer, firstLine, lacksRoom, markBefore, runCall}
+use Rattle.lockin.specs.Run.{firstAnswer, firstLine, writtenBehind, lacksRoom, markBefore, runCall}
 
 -- ---- bytes handed over one by one
 
@@ -26,6 +26,8 @@ pub record Fed : Type 0 where
   pub two : List ℕ
   -- §1.5: the replies reported, one behind the other
   pub replies : List ℕ
+  -- §1.1: all that the calls wrote of the room, from its first byte on; behind the replies what a line left that met 4
+  pub written : List ℕ
   -- §2.1: how many bytes were the end of a line
   pub ended : ℕ
   -- the first refusal that a call reported, with its place, and the number of its line, 0 where there is none
@@ -35,9 +37,9 @@ pub record Fed : Type 0 where
 -- before the first byte
 abbrev pub unfed : Module → List ℕ → List ℕ → Fed
 unfed m one two =
-    record { after = m; one = one; two = two; replies = []; ended = 0; answer = Passed; line = 0 }
+    record { after = m; one = one; two = two; replies = []; written = []; ended = 0; answer = Passed; line = 0 }
 
--- §2.2: one more byte by a call of its own, lent what the replies so far leave of the room
+-- §2.2: one more byte by a call of its own, lent what the replies so far leave of the room, which it writes there
 unfoldable pub fedWith : ℕ → ℕ → Bool → Fed → Fed
 fedWith room b mark f =
     let c = byteCall (room - length (f .replies)) b mark (f .after) (f .one) (f .two) in
@@ -46,6 +48,7 @@ fedWith room b mark f =
       one = c .one;
       two = c .two;
       replies = f .replies ++ take (c .report .length) (c .out);
+      written = writtenBehind (length (f .replies)) (c .out) (f .written);
       ended = cond (isEnd (f .after .state .installation .port) b mark) (f .ended + 1) (f .ended);
       answer = firstAnswer (f .answer) (c .report .answer);
       line = firstLine (f .answer) (f .line) (c .report .answer) (f .ended + 1);
@@ -75,14 +78,15 @@ pub data Taken (room : ℕ) (mark : Bool) : List ℕ → Fed → ℕ → Fed →
 
 -- §2.9 and §2.10: what the call c with a run leaves and reports is what the bytes leave one by one, as many of them as
 -- the rule lets be taken
-pub record SameAsSingly (room : ℕ) (bytes : List ℕ) (mark : Bool) (m : Module) (one two : List ℕ)
+pub record SameAsSingly (lent : ℕ) (bytes : List ℕ) (mark : Bool) (m : Module) (one two : List ℕ)
     (c : After Module RunReport) : Type 0
   where
     pub fed : Fed
-    pub taken : Taken room mark bytes (unfed m one two) (c .report .taken) fed
+    pub taken : Taken lent mark bytes (unfed m one two) (c .report .taken) fed
     pub after : c .after ≡ fed .after
     pub first : c .one ≡ fed .one
     pub second : c .two ≡ fed .two
+    pub room : c .out ≡ fed .written
     -- the replies, joined in order, stand at the front of the room
     pub replies : take (length (fed .replies)) (c .out) ≡ fed .replies
     pub told : c .report .report .length ≡ length (fed .replies)
