@@ -1,5 +1,5 @@
-// The calls on one lock-in module: start, bytes, lines handed over whole, events, and the status byte between lines.
-// Open this crate first.
+// The calls on one lock-in module: start, bytes one by one or in runs, lines handed over whole, events, and the status
+// byte between lines. Open this crate first.
 ghost use mathlib.Core.Path.{_≡_};
 ghost use mathlib.Core.List.{[]};
 ghost use Prim.Native.Nat.{_≤_};

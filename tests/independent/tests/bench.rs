@@ -51,25 +51,26 @@ fn bench_writes_nothing_to_no_input() {
     assert_eq!(compare("no input", b"", b""), 0);
 }
 
+/// Compares the replies to the input of each seed, and says how many bytes agree.
+fn compare_seeds(kind: &str, seeds: &[u64], input_of: impl Fn(u64) -> Vec<u8>) {
+    let compared = seeds.iter().map(|&seed| {
+        let input = input_of(seed);
+        compare(&format!("{kind}, seed {seed}"), &input, &own_replies(&input))
+    });
+    counts::say(compared.sum(), "reply bytes agree");
+}
+
 /// Random lines, well formed and not, with line ends of several kinds.
 #[test]
 fn bench_replies_to_random_lines_alike_within_a_small_stack() {
-    let compared = SEEDS.map(|seed| {
-        let input = random::bench::input(seed, LINES_PER_SEED);
-        compare(&format!("seed {seed}"), &input, &own_replies(&input))
-    });
-    counts::say(compared.into_iter().sum(), "reply bytes agree");
+    compare_seeds("lines", &SEEDS, |seed| random::bench::input(seed, LINES_PER_SEED));
 }
 
 /// Lines of many queries: what is read at once has more replies than the room holds, so that each has to be written
 /// before the next ones find room.
 #[test]
 fn bench_replies_to_many_queries_alike_within_a_small_stack() {
-    let compared = QUERY_SEEDS.map(|seed| {
-        let input = random::bench::queries(seed, QUERY_BYTES);
-        compare(&format!("queries, seed {seed}"), &input, &own_replies(&input))
-    });
-    counts::say(compared.into_iter().sum(), "reply bytes agree");
+    compare_seeds("queries", &QUERY_SEEDS, |seed| random::bench::queries(seed, QUERY_BYTES));
 }
 
 /// Bytes are replied to as they come in, also where a line comes in pieces.
