@@ -102,7 +102,8 @@ record Trip (a : Address) (s : State) : Type 0 where
   text : textOf query s false ≡ replyTo a s
   set : SetArgument
   sent : Says (a .set (replyTo a s)) (Set set)
-  same : (t : State) → StateFits t → valuesAt (stateAfter (Set set) t) (a .holds) ≡ valuesAt s (a .holds)
+  same : (t : State) → StateFits t → validState t ≡ true → setAllowed (t .settings) (t .acquisition) set ≡ true →
+      valuesAt (stateAfter (Set set) t) (a .holds) ≡ valuesAt s (a .holds)
   others : (t : State) → OthersStay (a .holds) t (stateAfter (Set set) t)
   refuses : (t : State) → setAllowed (t .settings) (t .acquisition) set ≡ false → CanRefuse (a .holds)
   back : Settable a s → setAllowed (s .settings) (s .acquisition) set ≡ true
@@ -142,11 +143,11 @@ module _ (s : State) (ok : validState s ≡ true) (fits : StateFits s) where
         text = one-text entry own;
         set = set.Value entry (kept entry);
         sent = one-sent name (n .0) entry e (kept entry) (kept-value s ok entry (n .1));
-        same = λ t f. ap (λ x. x ∷ []) (value-after t (f .full) entry (kept entry) (n .1));
+        same = λ t f v p. ap (λ x. x ∷ []) (value-after t (f .full) entry (kept entry) (n .1) v p);
         others = λ t. value-others t entry (kept entry);
         refuses = λ t p. set-refused (t .settings) (t .acquisition) entry (kept entry) p;
         back = λ settable. value-back s ok entry own (λ z. settable (ap (λ x. atEntry x ∷ []) z));
-        still = value-same s entry;
+        still = value-same s ok entry;
       }
 
   back-enable : (name : List ℕ) (which : Register) → meaningOf name ≡ Enable which →
@@ -162,7 +163,7 @@ module _ (s : State) (ok : validState s ≡ true) (fits : StateFits s) where
         text = enable-text which;
         set = set.Enable which v;
         sent = enable-sent name n which e v (enable-byte (s .enables) (fits .enables) which);
-        same = λ t f. ap (λ x. x ∷ []) (enable-after s ok (fits .enables) t which);
+        same = λ t f v p. ap (λ x. x ∷ []) (enable-after s ok (fits .enables) t which);
         others = λ t. enable-others t which v;
         refuses = λ t p. absurd (true≢false p);
         back = λ settable. refl;
@@ -184,11 +185,11 @@ module _ (s : State) (ok : validState s ≡ true) (fits : StateFits s) where
           set = set.Value at (kept at);
           sent = channel-sent name (n .0) base channels i some most (n .1) e (kept at) (n .2)
               (kept-value s ok at (n .2 .inside));
-          same = λ t f. ap (λ x. x ∷ []) (value-after t (f .full) at (kept at) (n .2 .inside));
+          same = λ t f v p. ap (λ x. x ∷ []) (value-after t (f .full) at (kept at) (n .2 .inside) v p);
           others = λ t. value-others t at (kept at);
           refuses = λ t p. set-refused (t .settings) (t .acquisition) at (kept at) p;
           back = λ settable. value-back s ok at own (λ z. settable (ap (λ x. atEntry x ∷ []) z));
-          still = value-same s at;
+          still = value-same s ok at;
         }
 
     back-pair : meaningOf name ≡ ChannelPair base channels →
@@ -210,16 +211,21 @@ module _ (s : State) (ok : validState s ≡ true) (fits : StateFits s) where
               rw b
               (pair-sent name (n .0) base channels i some most (n .1) e (kept at) (kept (at + 1)) (n .2) (n .3)
               (kept-value s ok at (n .2 .inside)) (kept-value s ok (at + 1) inside));
-          same = λ t f.
+          same = λ t f v p.
               ap₂ (λ x y. x ∷ y ∷ []) (pair-first t (f .full) at (kept at) (kept (nextEntry at)) past inside)
               (pair-second t (f .full) at (kept at) (kept (nextEntry at)) past inside);
           others = λ t. pair-others t at (kept at) (kept (nextEntry at));
           refuses = λ t p. absurd (true≢false p);
           back = λ settable. refl;
-          still = pair-same s at;
+          still = pair-same s ok at;
         }
 
 -- ---- the same over the calls
+
+ready-valid : (m : Module) (one two : List ℕ) → Ready m one two → validState (m .state) ≡ true
+unfolding validModule
+ready-valid m one two r =
+    and-first (validState (m .state)) _ (passes m (length one) (length two) (r .passes) .valid)
 
 module _ (a : Address) (m : Module) (one two : List ℕ) (ready : Ready m one two) (trip : Trip a (m .state)) where
   asked-here : (room : ℕ) → length (replyTo a (m .state)) + 1 ≤ room →
@@ -248,8 +254,8 @@ module _ (a : Address) (m : Module) (one two : List ℕ) (ready : Ready m one tw
           (cond d
           (silent Done (stateAfter (Set (trip .set)) (t .state)) first second)
           (refusedBy NotAllowed (t .state) first second)))))
-      by true e = unfold afterOf firstOf drops in taken _ refl (trip .same (t .state) (other .fits .state))
-          (trip .others (t .state))
+      by true e = unfold afterOf firstOf drops in taken _ refl
+          (trip .same (t .state) (other .fits .state) (ready-valid t first second other) e) (trip .others (t .state))
       by false e = unfold afterOf firstOf drops isNoRoom in refused (trip .refuses (t .state) e)
 
   back-call : Settable a (m .state) → (room : ℕ) →
@@ -261,11 +267,6 @@ module _ (a : Address) (m : Module) (one two : List ℕ) (ready : Ready m one tw
 
   round-trip : RoundTrip a m one two
   round-trip = record { asked = asked-here; sent = sent-call; back = back-call }
-
-ready-valid : (m : Module) (one two : List ℕ) → Ready m one two → validState (m .state) ≡ true
-unfolding validModule
-ready-valid m one two r =
-    and-first (validState (m .state)) _ (passes m (length one) (length two) (r .passes) .valid)
 
 pub demand2 : Demand2
 demand2 a setting m one two ready internal =

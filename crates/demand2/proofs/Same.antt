@@ -1,37 +1,32 @@
 -- A value that is set where it stands already: allowed in its own state, and nothing changes. Assumes nothing.
-use Prim.Native.Nat.{ℕ, _+_, _%_, _^_, _<_}
+use Prim.Native.Nat.{ℕ, _%_, _^_, _<_}
 use mathlib.Core.Path.{_≡_, refl, ap, _∙_}
-use mathlib.Core.Bool.{Bool, true, false, cond, not, _&&_, _||_, true≢false}
+use mathlib.Core.Bool.{Bool, true, false, cond, _&&_, true≢false}
 use mathlib.Core.List.{[], _∷_, List·Memᴰ·head, List·Memᴰ·tail}
 use native.Mathlib.Omega.{arith}
-use lib.Bits.{or-zero-r}
-use lib.Dec.{leb, eqb}
+use lib.Dec.{eqb}
 use lib.ListN.{set as set-at}
 use lib.Seq.{set-getD, getD-set-other}
 use borrow.Author.Tests.{eqb-true}
-use Rattle.laws.proofs.Tests.{and-first, and-second}
 use Rattle.mnemonic.specs.declared.Register.{Register}
 use Rattle.mnemonic.specs.declared.Register.the-variants.{Standard, Service, Lia, Errors}
-use Rattle.settings.specs.Table.{fmod, freq, harm, oflt, send, nextEntry, valueOf, withValue}
-use Rattle.settings.specs.Frequency.{isInternal, above200, crossingOf, detectionOf, withinLimit, timeConstantStands}
-use Rattle.settings.specs.Frequency.{frequencyInRange}
-use Rattle.settings.specs.Valid.{valuesValid, validSettings}
+use Rattle.settings.specs.Table.{fmod, freq, harm, oflt, send, nextEntry, valueOf}
+use Rattle.settings.specs.Frequency.{isInternal, timeConstantStands}
 use Rattle.settings.specs.declared.Settings.{Settings}
 use Rattle.storage.specs.Storage.{isReset}
-use Rattle.storage.specs.Storage as storage
 use Rattle.status.specs.Bits.{bitOf, withoutBit}
 use Rattle.status.specs.Status.{enableOf, withEnableByte, withEnable}
-use Rattle.status.specs.Status as status
 use Rattle.status.specs.declared.Enables.{Enables}
 use Rattle.status.proofs.Bits.{apart-bits, power-here, bit-lt}
 use Rattle.status.proofs.Preserved.{kept}
 use Rattle.command.specs.declared.SetArgument.{SetArgument}
 use Rattle.command.specs.declared.SetArgument.the-variants as set
 use Rattle.command.specs.declared.Kind.the-variants.{Set}
-use Rattle.state.specs.Valid.{partsValid, validState}
-use Rattle.state.specs.State.{withSettings, withRegisters, detectionNow, crossedFrom}
+use Rattle.state.specs.Valid.{validState}
+use Rattle.state.specs.State.{settled}
 use Rattle.state.specs.declared.Acquisition.{Acquisition}
 use Rattle.state.specs.declared.State.{State}
+use Rattle.state.proofs.Sound.{sound, ranged, settled-same}
 use Rattle.precondition.specs.Allowed.{staysWithinLimit, valueAllowed, setAllowed}
 use Rattle.effect.specs.Effect.{withPair, setIn}
 use Rattle.effect.specs.Effect.{enablesSet, stateAfter}
@@ -46,7 +41,7 @@ value-by : (s : Settings) (m : Acquisition) (entry v : ℕ) (P : Bool → Type 0
     (entry ≡ freq → P (isInternal s && staysWithinLimit s m entry v)) →
     (entry ≡ harm → P (staysWithinLimit s m entry v)) →
     (entry ≡ fmod → P (staysWithinLimit s m entry v)) →
-    (entry ≡ oflt → P (timeConstantStands (detectionOf s (m .external)) v)) →
+    (entry ≡ oflt → P (timeConstantStands (m .range) v)) →
     (entry ≡ send → P (isReset (m .storage))) →
     P true → P (valueAllowed s m entry v)
 unfolding valueAllowed
@@ -73,22 +68,9 @@ set-refused s m entry v =
 -- ---- what stands may be set
 
 module _ (s : State) (ok : validState s ≡ true) where
-  abbrev detection : ℕ
-  detection = detectionOf (s .settings) (s .acquisition .external)
-
-  settings-valid : validSettings (s .settings) (s .acquisition .external) ≡ true
-  unfolding validState partsValid
-  settings-valid = and-first _ _ (and-first _ _ ok)
-
-  rules : (withinLimit detection && timeConstantStands detection (valueOf (s .settings) oflt)) ≡ true
-  unfolding validSettings
-  rules =
-      and-second (frequencyInRange (s .acquisition .external)) _
-      (and-second (valuesValid (s .settings)) _ settings-valid)
-
   own-limit : (entry : ℕ) → staysWithinLimit (s .settings) (s .acquisition) entry (valueOf (s .settings) entry) ≡ true
   unfolding staysWithinLimit
-  own-limit entry = rw (set-getD (s .settings .values) entry 0) (and-first (withinLimit detection) _ rules)
+  own-limit entry = rw (set-getD (s .settings .values) entry 0) (sound s ok .tuned .limit)
 
   pub value-back : (entry : ℕ) → (entry ≡ freq → isInternal (s .settings) ≡ true) →
       (entry ≡ send → isReset (s .acquisition .storage) ≡ true) →
@@ -98,52 +80,39 @@ module _ (s : State) (ok : validState s ≡ true) where
       value-by (s .settings) (s .acquisition) entry (valueOf (s .settings) entry) (λ t. t ≡ true)
       (λ z. rw (internal z) (own-limit entry))
       (λ z. own-limit entry) (λ z. own-limit entry)
-      (λ z. rw z (and-second (withinLimit detection) _ rules))
+      (λ z. rw z (ranged s ok .constant))
       settable refl
 
 -- ---- and changes nothing
 
--- where the detection frequency stays, nothing is crossed
-crossed-same : (s : State) → crossedFrom (detectionNow s) s ≡ s
-unfolding crossedFrom crossingOf
-crossed-same s = by (above200 (detectionNow s)) where
-  by : (t : Bool) →
-      let shortens = (not t && t) && leb 14 (valueOf (s .settings) oflt) in
-      withSettings (withValue (s .settings) oflt (cond shortens 13 (valueOf (s .settings) oflt)))
-      (withRegisters
-      (status.withLia (s .registers) (cond ((not t && t) || (not t && t)) 16 0 + cond shortens 32 0)) s) ≡ s
-  by true = rw (set-getD (s .settings .values) oflt 0, or-zero-r (s .registers .lia)) refl
-  by false = rw (set-getD (s .settings .values) oflt 0, or-zero-r (s .registers .lia)) refl
-
--- a set that leaves settings and enables as they are
-set-same : (a : SetArgument) (s : State) → setIn (s .settings) a ≡ s .settings →
+-- a set that leaves settings and enables of a valid state as they are
+set-same : (a : SetArgument) (s : State) → validState s ≡ true → setIn (s .settings) a ≡ s .settings →
     enablesSet a (s .enables) ≡ s .enables → stateAfter (Set a) s ≡ s
 unfolding stateAfter
-set-same a s p q = rw (p, q) (crossed-same s)
+set-same a s ok p q = rw (p, q) (settled-same s (ranged s ok))
 
-pub value-same : (s : State) (entry : ℕ) → stateAfter (Set (set.Value entry (valueOf (s .settings) entry))) s ≡ s
-unfolding setIn enablesSet
-value-same s entry =
-    set-same (set.Value entry (valueOf (s .settings) entry)) s (rw (set-getD (s .settings .values) entry 0) refl) refl
+module _ (s : State) (ok : validState s ≡ true) (entry : ℕ) where
+  pub value-same : stateAfter (Set (set.Value entry (valueOf (s .settings) entry))) s ≡ s
+  unfolding setIn enablesSet
+  value-same =
+      set-same (set.Value entry (valueOf (s .settings) entry)) s ok
+      (rw (set-getD (s .settings .values) entry 0) refl) refl
 
-pub pair-same : (s : State) (entry : ℕ) →
-    stateAfter (Set (set.Pair entry (valueOf (s .settings) entry) (valueOf (s .settings) (nextEntry entry)))) s ≡ s
-unfolding setIn withPair enablesSet
-pair-same s entry =
-    set-same (set.Pair entry (valueOf (s .settings) entry) (valueOf (s .settings) (nextEntry entry))) s
-    (rw (set-getD (s .settings .values) entry 0, set-getD (s .settings .values) (nextEntry entry) 0) refl) refl
+  pub pair-same : stateAfter (Set
+      (set.Pair entry (valueOf (s .settings) entry) (valueOf (s .settings) (nextEntry entry)))) s ≡ s
+  unfolding setIn withPair enablesSet
+  pair-same =
+      set-same (set.Pair entry (valueOf (s .settings) entry) (valueOf (s .settings) (nextEntry entry))) s ok
+      (rw (set-getD (s .settings .values) entry 0, set-getD (s .settings .values) (nextEntry entry) 0) refl) refl
 
 -- ---- enables
 
 -- *SRE keeps no bit 6
 service-free : (s : State) → validState s ≡ true → withoutBit (s .enables .service) 6 ≡ s .enables .service
-unfolding validState partsValid withoutBit
+unfolding withoutBit
 service-free s ok =
     let x = s .enables .service in
-    let keeps = storage.isValid (s .acquisition .storage) (s .installation .capacity) (valueOf (s .settings) send) in
-    let k = kept (s .registers) (s .enables)
-    (and-second keeps _
-    (and-second (validSettings (s .settings) (s .acquisition .external)) _ (and-first (partsValid s) _ ok))) in
+    let k = kept (s .registers) (s .enables) (sound s ok .bits) in
     let z : bitOf x 6 ≡ 0 = omega (arith, apart-bits x (2 ^ 6) (k .service-free) 6, power-here 6, bit-lt x 6) in
     rw z (omega arith)
 
@@ -174,7 +143,7 @@ module _ (s : State) (ok : validState s ≡ true) (fit : EnablesFit (s .enables)
   pub enable-same : (which : Register) → stateAfter (Set (set.Enable which (enableOf (s .enables) which))) s ≡ s
   unfolding setIn enablesSet withEnable
   enable-same which =
-      set-same (set.Enable which (enableOf (s .enables) which)) s refl (rw (same-byte which) (by which)) where
+      set-same (set.Enable which (enableOf (s .enables) which)) s ok refl (rw (same-byte which) (by which)) where
         by : (which : Register) → withEnableByte (s .enables) which (enableOf (s .enables) which) ≡ s .enables
         by Standard = unfold enableOf withEnableByte in refl
         by Service = unfold enableOf withEnableByte in rw (service-free s ok) refl
@@ -184,15 +153,15 @@ module _ (s : State) (ok : validState s ≡ true) (fit : EnablesFit (s .enables)
   pub enable-after : (t : State) (which : Register) →
       enableOf (stateAfter (Set (set.Enable which (enableOf (s .enables) which))) t .enables) which
       ≡ enableOf (s .enables) which
-  unfolding stateAfter crossedFrom enablesSet
+  unfolding stateAfter settled enablesSet
   enable-after t which = enable-set (t .enables) which
 
 -- ---- and values elsewhere stay
 
 module _ (t : State) where
-  -- an entry that neither the set nor the crossing after it names
+  -- an entry that is neither the set's nor OFLT's
   pub value-others : (entry v : ℕ) → OthersStay (atEntry entry ∷ []) t (stateAfter (Set (set.Value entry v)) t)
-  unfolding stateAfter crossedFrom setIn enablesSet
+  unfolding stateAfter settled setIn enablesSet
   value-others entry v (atEntry e) apart other =
       getD-set-other (set-at (t .settings .values) entry v) oflt e _ 0 (λ z. other (ap atEntry z))
       ∙ getD-set-other (t .settings .values) entry e v 0 (λ z. apart (List·Memᴰ·head (ap atEntry z)))
@@ -200,7 +169,7 @@ module _ (t : State) where
 
   pub pair-others : (entry v w : ℕ) →
       OthersStay (atEntry entry ∷ atEntry (nextEntry entry) ∷ []) t (stateAfter (Set (set.Pair entry v w)) t)
-  unfolding stateAfter crossedFrom setIn withPair enablesSet
+  unfolding stateAfter settled setIn withPair enablesSet
   pair-others entry v w (atEntry e) apart other =
       let first = set-at (t .settings .values) entry v in
       getD-set-other (set-at first (nextEntry entry) w) oflt e _ 0 (λ z. other (ap atEntry z))
@@ -231,7 +200,7 @@ module _ (t : State) where
 
   pub enable-others : (which : Register) (v : ℕ) →
       OthersStay (atEnable which ∷ []) t (stateAfter (Set (set.Enable which v)) t)
-  unfolding stateAfter crossedFrom setIn enablesSet withEnable
+  unfolding stateAfter settled setIn enablesSet withEnable
   enable-others which v (atEntry e) apart other =
       getD-set-other (t .settings .values) oflt e _ 0 (λ z. other (ap atEntry z))
   enable-others which v (atEnable r) apart other = other-enable which r _ (λ z. apart (List·Memᴰ·head (ap atEnable z)))

@@ -124,13 +124,12 @@ pub data CanRefuse : List Location → Type 0 where
   harmonic : CanRefuse (atEntry harm ∷ [])
   -- §6.3: FMOD
   reference : CanRefuse (atEntry fmod ∷ [])
-  -- §6.5: OFLT
+  -- §6.6: OFLT
   constant : CanRefuse (atEntry oflt ∷ [])
   -- §7.5: SEND
   end : CanRefuse (atEntry send ∷ [])
 
--- §5.4: no other value changes but the time constant, which shortens where the detection frequency rises above 200 Hz
--- (§6.6)
+-- §5.4: no other value changes but the time constant, which shortens where the frequency range becomes upper (§6.7)
 abbrev pub OthersStay : List Location → State → State → Type 0
 OthersStay places before after =
     (p : Location) → (List·Memᴰ p places → ⊥) → (p ≡ atEntry oflt → ⊥) → valueAt after p ≡ valueAt before p

@@ -18,7 +18,7 @@ use Rattle.command.specs.declared.Parsed.{Parsed}
 use Rattle.command.specs.declared.Parsed.the-variants as parsed
 use Rattle.state.specs.declared.State.{State}
 use Rattle.precondition.specs.Allowed.{isAllowed}
-use Rattle.effect.specs.Effect.{restoredBy, settingsAfter, storageBy, storageAfter, externalBy, externalAfter}
+use Rattle.effect.specs.Effect.{restoredBy, settingsAfter, storageBy, restartedBy, acquisitionBy}
 use Rattle.effect.specs.Effect.{acquisitionAfter, stateAfter}
 use Rattle.reply_buffer.specs.Buffer.{fitsIn}
 use Rattle.reply.specs.Reply.{replyOf}
@@ -32,7 +32,8 @@ use Rattle.extreme_courses.specs.Extremes.{resets, kindRefusal, textRefusal, ki
 use Rattle.extreme_courses.specs.declared.Extremes.{Extremes}
 use Rattle.script.specs.Check.{textsAnswer, textsAfter}
 use Rattle.invariant.proofs.Storable.{Storable, StorableParsed, parsed-storable}
-use Rattle.demand3.proofs.SameButTimeConstant.{alike-then, alike-allows, alike-after, alike-acquisition, after-settings}
+use Rattle.demand3.proofs.SameButTimeConstant.{alike-then, alike-allows, alike-after, alike-acquisition}
+use Rattle.demand3.proofs.SameButTimeConstant.{after-settings}
 use Rattle.demand3.proofs.SameButTimeConstant.{after-acquisition, after-installation}
 use Rattle.demand3.proofs.Simulation.{command-goes, reset-goes}
 use Rattle.demand3.proofs.EventStep.{Within}
@@ -71,7 +72,8 @@ kind-done b kind Goal =
 
 -- a command that the state allows is done, or refused by 4
 pub valid-done : (P : Effect → Type 0) (room : ℕ) (waiting : Bool) (kind : Kind) (s : State) (one two : List ℕ)
-    → isAllowed (s .settings) (s .acquisition) kind ≡ true → drops (performed room waiting kind s one two .report) ≡ false
+    → isAllowed (s .settings) (s .acquisition) kind ≡ true
+    → drops (performed room waiting kind s one two .report) ≡ false
     → P (doneBy kind (replyOf kind s waiting one two) s one two) → P (performed room waiting kind s one two)
 unfolding performed
 valid-done P room waiting kind s one two e =
@@ -88,9 +90,10 @@ valid-done P room waiting kind s one two e =
 -- the state allows the command, which leads where the check goes
 abbrev Lands : Model → Extremes → State → Kind → Type 0
 Lands model b s kind =
+    let y = settingsAfter kind (b .settings) in
     (isAllowed (s .settings) (s .acquisition) kind ≡ true)
-    × Within model (settingsAfter kind (b .settings)) (acquisitionAfter kind (b .settings) (b .low) (model .capacity))
-    (acquisitionAfter kind (b .settings) (b .high) (model .capacity)) (stateAfter kind s)
+    × Within model y (acquisitionAfter kind y (b .low) (model .capacity))
+    (acquisitionAfter kind y (b .high) (model .capacity)) (stateAfter kind s)
 
 module _ (model : Model) (b : Extremes) (s : State) (i : Sim model b s) where
   -- after *RST
@@ -99,16 +102,18 @@ module _ (model : Model) (b : Extremes) (s : State) (i : Sim model b s) where
       → Lands model b s kind
   begun-within kind k e l h =
       let w = i .begun e in
-      let g = command-goes (model .capacity) (b .settings) (s .acquisition) (b .low) (b .high) (w .between) kind k l h in (
+      let like = alike-after (s .settings) (b .settings) (w .alike) kind in
+      let g = command-goes (model .capacity) (b .settings) (s .acquisition) (b .low) (b .high)
+      (w .between) kind k l h in (
         alike-allows (s .settings) (b .settings) (w .alike) (s .acquisition) kind ∙ g .0,
         record {
           same = rw (after-installation kind s) (i .same);
-          alike = alike-then (after-settings kind s) (alike-after (s .settings) (b .settings) (w .alike) kind);
+          alike = alike-then (after-settings kind s) like;
           between =
               rw (
                 after-acquisition kind s,
                 i .same .capacity,
-                alike-acquisition (s .settings) (b .settings) (w .alike) kind
+                alike-acquisition (settingsAfter kind (s .settings)) (settingsAfter kind (b .settings)) like kind
                     (s .acquisition) (model .capacity),
               ) (g .1);
         },
@@ -116,7 +121,7 @@ module _ (model : Model) (b : Extremes) (s : State) (i : Sim model b s) where
 
   -- the leading *RST, in any state
   reset-within : Lands model b s (Act Reset)
-  unfolding isAllowed settingsAfter restoredBy acquisitionAfter externalAfter externalBy storageAfter storageBy
+  unfolding isAllowed settingsAfter restoredBy acquisitionAfter acquisitionBy restartedBy storageBy
   reset-within = (
     refl,
     record {
@@ -175,7 +180,8 @@ kept-rest next rest = by (next .report .dropped) refl where
 
 module _ (room : ℕ) (t : List ℕ) (ts : List (List ℕ)) (l : Line) where
   pub run-rest : runAll room (t ∷ ts) l .report .dropped ≡ false
-      → (afterCommand room t l .report .dropped ≡ false) × (runAll room (t ∷ ts) l ≡ runAll room ts (afterCommand room t l))
+      → (afterCommand room t l .report .dropped ≡ false) ×
+      (runAll room (t ∷ ts) l ≡ runAll room ts (afterCommand room t l))
   unfolding runAll
   run-rest = kept-rest (afterCommand room t l) (runAll room ts (afterCommand room t l))
 
@@ -183,7 +189,8 @@ module _ (room : ℕ) (t : List ℕ) (ts : List (List ℕ)) (l : Line) where
 abbrev pub effectIn : ℕ → List ℕ → Line → Effect
 effectIn room t l = commandOf (room - length (l .out)) (waits (l .out)) (parsedOf t) (l .after) (l .one) (l .two)
 
-pub step-passed : (room : ℕ) (t : List ℕ) (l : Line) → l .report .answer ≡ Passed → effectIn room t l .report ≡ outcome.Done
+pub step-passed : (room : ℕ) (t : List ℕ) (l : Line) → l .report .answer ≡ Passed
+    → effectIn room t l .report ≡ outcome.Done
     → afterCommand room t l .report .answer ≡ Passed
 unfolding afterCommand afterOf
 step-passed room t l e f = rw (e, f) (unfold firstOf in refl)
@@ -244,7 +251,8 @@ place-behind room (t ∷ ts) l r p e d f =
 step-follows : (model : Model) (room : ℕ) (t : List ℕ) (l : Line) (b : Extremes) → Sim model b (l .after)
     → textRefusal (parsedOf t) b ≡ outcome.Done
     → afterCommand room t l .report .dropped ≡ false
-    → (effectIn room t l .report ≡ outcome.Done) × Sim model (textAfter model (parsedOf t) b) (afterCommand room t l .after)
+    → (effectIn room t l .report ≡ outcome.Done) × Sim model (textAfter model (parsedOf t) b)
+    (afterCommand room t l .after)
 unfolding afterCommand afterOf
 step-follows model room t l b i e d =
     parsed-follows model b (l .after) i (room - length (l .out)) (waits (l .out)) (parsedOf t) (l .one) (l .two)

@@ -16,11 +16,11 @@ use Rattle.command.specs.declared.SetArgument.{SetArgument}
 use Rattle.command.specs.declared.SetArgument.the-variants as set
 use Rattle.command.specs.declared.Kind.{Kind}
 use Rattle.command.specs.declared.Kind.the-variants.{Set, Query, Act}
-use Rattle.state.specs.State.{samplingOf, detectionNow, crossedFrom}
+use Rattle.state.specs.State.{samplingOf, rangeSettled, settled}
 use Rattle.state.specs.declared.Acquisition.{Acquisition}
 use Rattle.state.specs.declared.State.{State}
 use Rattle.precondition.specs.Allowed.{staysWithinLimit, valueAllowed, setAllowed, isAllowed}
-use Rattle.effect.specs.Effect.{withPair, setIn, isRst, restoredBy, settingsAfter, storageAfter, acquisitionAfter}
+use Rattle.effect.specs.Effect.{withPair, setIn, isRst, restoredBy, settingsAfter, acquisitionBy, acquisitionAfter}
 use Rattle.effect.specs.Effect.{stateAfter}
 use Rattle.effect.proofs.After.{act-settings}
 pub use Rattle.effect.proofs.After.{after-acquisition, after-installation}
@@ -40,7 +40,8 @@ alike-constant s v = record { rest = rw (set-set (s .values) oflt v 0) refl }
 
 pub alike-value : {s t : Settings} → Alike s t → (e : ℕ) → (e ≡ oflt → ⊥) → valueOf s e ≡ valueOf t e
 alike-value {s} {t} p e n =
-    sym (getD-set-other (s .values) oflt e 0 0 n) ∙ (ap (λ (x : Settings). valueOf x e) (p .rest) ∙ getD-set-other (t .values) oflt e 0 0 n)
+    sym (getD-set-other (s .values) oflt e 0 0 n) ∙
+    (ap (λ (x : Settings). valueOf x e) (p .rest) ∙ getD-set-other (t .values) oflt e 0 0 n)
 
 -- the same value at the same entry
 alike-with : (s t : Settings) → Alike s t → (e v : ℕ) → Alike (withValue s e v) (withValue t e v)
@@ -51,7 +52,10 @@ alike-with s t p e v = by (eqb e oflt) refl where
       rw z (alike-then (alike-constant s v) (alike-then p (record { rest = sym (alike-constant t v .rest) })))
   by false q =
       let n = eqb-false e oflt q in
-      record { rest = rw (set-comm (s .values) e oflt v 0 n, set-comm (t .values) e oflt v 0 n) (ap (λ (x : Settings). withValue x e v) (p .rest)) }
+      record {
+        rest = rw (set-comm (s .values) e oflt v 0 n, set-comm (t .values) e oflt v 0 n)
+            (ap (λ (x : Settings). withValue x e v) (p .rest));
+      }
 
 -- ---- what no rule reads
 
@@ -64,7 +68,12 @@ module _ (s t : Settings) (p : Alike s t) where
   pub alike-sampling : samplingOf s ≡ samplingOf t
   unfolding samplingOf
   alike-sampling =
-      rw (alike-value p srat (λ e. omega arith), alike-value p send (λ e. omega arith), alike-value p tstr (λ e. omega arith)) refl
+      rw (
+        alike-value p srat (λ e. omega arith),
+        alike-value p send (λ e. omega arith),
+        alike-value p tstr
+            (λ e. omega arith),
+      ) refl
 
 -- ---- commands
 
@@ -76,7 +85,7 @@ module _ (s t : Settings) (p : Alike s t) where
   alike-set : (m : Acquisition) (a : SetArgument) → setAllowed s m a ≡ setAllowed t m a
   unfolding setAllowed valueAllowed
   alike-set m (set.Value e v) =
-      rw (alike-limit m e v, alike-value p fmod (λ q. omega arith), alike-detection s t p (m .external)) refl
+      rw (alike-limit m e v, alike-value p fmod (λ q. omega arith)) refl
   alike-set m (set.Pair e v w) = refl
   alike-set m (set.Enable r v) = refl
   alike-set m (set.EnableBit r i v) = refl
@@ -94,30 +103,36 @@ module _ (s t : Settings) (p : Alike s t) where
   pub alike-after : (kind : Kind) → Alike (settingsAfter kind s) (settingsAfter kind t)
   unfolding settingsAfter setIn withPair restoredBy
   alike-after (Set (set.Value e v)) = alike-with s t p e v
-  alike-after (Set (set.Pair e v w)) = alike-with (withValue s e v) (withValue t e v) (alike-with s t p e v) (nextEntry e) w
+  alike-after (Set (set.Pair e v w)) = alike-with (withValue s e v) (withValue t e v) (alike-with s t p e v)
+      (nextEntry e) w
   alike-after (Set (set.Enable r v)) = p
   alike-after (Set (set.EnableBit r i v)) = p
   alike-after (Query q) = p
   alike-after (Act a) = restored (isRst a)
 
-  pub alike-acquisition : (kind : Kind) (m : Acquisition) (capacity : ℕ) → acquisitionAfter kind s m capacity ≡ acquisitionAfter kind t m capacity
-  unfolding acquisitionAfter storageAfter
-  alike-acquisition (Set a) m capacity = refl
+  pub alike-settled : (m : Acquisition) → rangeSettled s m ≡ rangeSettled t m
+  unfolding rangeSettled
+  alike-settled m = rw (alike-detection s t p (m .external)) refl
+
+  pub alike-acquisition : (kind : Kind) (m : Acquisition) (capacity : ℕ)
+      → acquisitionAfter kind s m capacity ≡ acquisitionAfter kind t m capacity
+  unfolding acquisitionAfter acquisitionBy
+  alike-acquisition (Set a) m capacity = alike-settled m
   alike-acquisition (Query q) m capacity = refl
   alike-acquisition (Act a) m capacity = rw (alike-sampling s t p) refl
 
 -- ---- a state after a command that is not refused
 
-pub crossed-settings : (old : ℕ) (s : State) → Alike (crossedFrom old s .settings) (s .settings)
-unfolding crossedFrom
-crossed-settings old s = alike-constant (s .settings) _
+pub settled-settings : (s : State) → Alike (settled s .settings) (s .settings)
+unfolding settled
+settled-settings s = alike-constant (s .settings) _
 
-pub crossed-acquisition : (old : ℕ) (s : State) → crossedFrom old s .acquisition ≡ s .acquisition
-unfolding crossedFrom
-crossed-acquisition old s = refl
+pub settled-acquisition : (s : State) → settled s .acquisition ≡ rangeSettled (s .settings) (s .acquisition)
+unfolding settled
+settled-acquisition s = refl
 
 pub after-settings : (kind : Kind) (s : State) → Alike (stateAfter kind s .settings) (settingsAfter kind (s .settings))
 unfolding stateAfter settingsAfter
-after-settings (Set a) s = crossed-settings (detectionNow s) _
+after-settings (Set a) s = settled-settings _
 after-settings (Query q) s = alike-self _
 after-settings (Act a) s = record { rest = ap (λ (x : Settings). withValue x oflt 0) (act-settings a s) }

@@ -1,21 +1,22 @@
 -- What the length of a reply depends on, beside the rules of refusal 11: a value for each entry of the table and no
 -- other, registers and enables that are bytes. Commands and the events of the check's two courses keep it.
-use Prim.Native.Nat.{ℕ, _%_, _^_, _≤_, _<_}
+use Prim.Native.Nat.{ℕ, _%_, _^_, _<_}
 use native.Mathlib.Omega.{arith}
-use mathlib.Core.Bool.{Bool, true, false, cond, _&&_, _||_}
+use mathlib.Core.Bool.{Bool, true, false, cond, _||_}
 use mathlib.Core.Path.{_≡_, refl, _∙_}
 use mathlib.Core.List.{List}
 use lib.Bits.{bitOr, or-lt}
-use lib.Dec.{leb, eqb, ltb}
+use lib.Dec.{eqb, ltb}
 use lib.ListN.{length, set, length-set}
 use lib.Pow.{pow-lt}
 use borrow.Author.Tests.{ltb-true}
 use Rattle.outcome.specs.Code.{codeOf}
 use Rattle.outcome.specs.declared.Refusal.{Refusal}
 use Rattle.outcome.proofs.Every.{refusal-rule}
-use Rattle.settings.specs.Table.{entries, table, oflt, startSettings, nextEntry}
-use Rattle.settings.specs.Frequency.{isInternal, crossingOf, crosses, lifts}
+use Rattle.settings.specs.Table.{entries, table, oflt, startSettings, nextEntry, valueOf}
+use Rattle.settings.specs.Frequency.{isInternal}
 use Rattle.settings.specs.declared.Settings.{Settings}
+use Rattle.settings.proofs.Stands.{effect-bits}
 use Rattle.storage.specs.Storage.{bit6, triggerStores, setsRunning, triggeredOf}
 use Rattle.storage.specs.declared.Storage.{Storage}
 use Rattle.storage.specs.declared.Sampling.{Sampling}
@@ -34,12 +35,11 @@ use Rattle.command.specs.declared.QueryArgument.{QueryArgument}
 use Rattle.command.specs.declared.QueryArgument.the-variants as query
 use Rattle.command.specs.declared.Kind.{Kind}
 use Rattle.command.specs.declared.Kind.the-variants.{Set, Query, Act}
-use Rattle.state.specs.State.{withRegisters, samplingOf, detectionNow, crossedFrom, withErrorBit}
+use Rattle.state.specs.State.{withRegisters, samplingOf, rangeSettled, settled, withErrorBit}
 use Rattle.state.specs.Storing.{triggerOf, sampledBy}
 use Rattle.state.specs.declared.State.{State}
 use Rattle.effect.specs.Effect.{withPair, setIn, storageBy, storageAfter, registersAsked}
 use Rattle.effect.specs.Effect.{enablesSet, stateAfter}
-use Rattle.effect.specs.Effect as change
 use Rattle.event.specs.Event.{takesFrequency, withExternal, notTaken, measuredBy, sampledIn, eventOf}
 use Rattle.event.specs.declared.Event.the-variants as event
 use Rattle.invariant.specs.Representable.{Byte, RegistersFit, EnablesFit}
@@ -125,19 +125,6 @@ module _ (e : Enables) (k : EnablesFit e) where
 
 -- ---- bits that are set
 
-cond-byte : (t : Bool) (x y : ℕ) → x ≤ 32 → y ≤ 32 → cond t x y ≤ 32
-cond-byte true x y h g = h
-cond-byte false x y h g = g
-
-crossing-byte : (old new constant : ℕ) → Byte (crossingOf old new constant .bits)
-unfolding crossingOf
-crossing-byte old new constant =
-    omega (
-      arith,
-      cond-byte (crosses old new) 16 0 (omega arith) (omega arith),
-      cond-byte (lifts old new && leb 14 constant) 32 0 (omega arith) (omega arith),
-    )
-
 trigger-byte : (s : Storage) (capacity : ℕ) (by : Sampling) → Byte (triggeredOf s capacity by .bits)
 unfolding triggeredOf
 trigger-byte s capacity by = side (setsRunning s by || triggerStores s by) where
@@ -150,12 +137,17 @@ refusal-byte r = ltb-true _ (2 ^ 8) (refusal-rule (λ q. ltb (codeOf q .bits) (2
 
 -- ---- a state
 
-crossed-sized : (old : ℕ) (s : State) → Sized s → Sized (crossedFrom old s)
-unfolding crossedFrom
-crossed-sized old s k =
+settled-sized : (s : State) → Sized s → Sized (settled s)
+unfolding settled
+settled-sized s k =
+    let old = s .acquisition .range in
+    let new = rangeSettled (s .settings) (s .acquisition) .range in
     record {
       full = length-set (s .settings .values) oflt _ ∙ k .full;
-      registers = lia-fits (s .registers) (k .registers) _ (crossing-byte old _ _);
+      registers =
+          lia-fits (s .registers) (k .registers) _
+          (effect-bits old new (valueOf (s .settings) oflt) Byte (omega arith) (omega arith) (omega arith)
+          (omega arith));
       enables = k .enables;
     }
 
@@ -169,7 +161,8 @@ set-full (set.EnableBit r i v) x h = h
 trigger-fits : (s : State) → RegistersFit (s .registers) → RegistersFit (withLia (s .registers) (triggerOf s .bits))
 unfolding triggerOf
 trigger-fits s k =
-    lia-fits (s .registers) k _ (trigger-byte (s .acquisition .storage) (s .installation .capacity) (samplingOf (s .settings)))
+    lia-fits (s .registers) k _ (trigger-byte (s .acquisition .storage) (s .installation .capacity)
+    (samplingOf (s .settings)))
 
 -- a trigger, by the event or by TRIG
 triggered-sized : (s : State) → Sized s → Sized (sampledBy (triggerOf s) s)
@@ -179,7 +172,7 @@ triggered-sized s k = record { full = k .full; registers = trigger-fits s (k .re
 set-sized : (a : SetArgument) (s : State) → Sized s → Sized (stateAfter (Set a) s)
 unfolding stateAfter
 set-sized a s k =
-    crossed-sized (detectionNow s) _
+    settled-sized _
     (record {
       full = set-full a (s .settings) (k .full);
       registers = k .registers;
@@ -231,7 +224,7 @@ pub measured-sized : (f : ℕ) (s : State) (one two : List ℕ) → Sized s
 unfolding eventOf measuredBy
 measured-sized f s one two k = by (isInternal (s .settings)) (takesFrequency s f) where
   taken : State
-  taken = crossedFrom (detectionNow s) (withExternal f s)
+  taken = settled (withExternal f s)
 
   left : State
   left = withRegisters (withLia (s .registers) notTaken) s
@@ -239,7 +232,7 @@ measured-sized f s one two k = by (isInternal (s .settings)) (takesFrequency s f
   by : (a b : Bool) → Sized (cond a s (cond b taken left))
   by true b = k
   by false true =
-      crossed-sized (detectionNow s) (withExternal f s)
+      settled-sized (withExternal f s)
       (record { full = k .full; registers = k .registers; enables = k .enables })
   by false false =
       record {

@@ -21,12 +21,12 @@ use Rattle.command.specs.declared.Kind.{Kind}
 use Rattle.command.specs.declared.Kind.the-variants.{Set, Query, Act}
 use Rattle.command.specs.declared.Parsed.{Parsed}
 use Rattle.command.specs.declared.Parsed.the-variants as parsed
-use Rattle.state.specs.State.{atFrequency, detectionNow, crossedFrom}
+use Rattle.state.specs.State.{atFrequency, rangeSettled, settled}
 use Rattle.state.specs.Storing.{triggerOf, sampledBy}
 use Rattle.state.specs.declared.Acquisition.{Acquisition}
 use Rattle.state.specs.declared.State.{State}
 use Rattle.precondition.specs.Allowed.{isAllowed}
-use Rattle.effect.specs.Effect.{acquisitionAfter, stateAfter}
+use Rattle.effect.specs.Effect.{settingsAfter, acquisitionAfter, stateAfter}
 use Rattle.line.specs.Perform.{doneBy, performed, commandOf}
 use Rattle.outcome.specs.Answer.{drops}
 use Rattle.line.specs.Line.{Line, waits, afterOf, afterCommand, runAll}
@@ -41,10 +41,12 @@ use Rattle.extreme_courses.specs.Extremes.{textAfter}
 use Rattle.extreme_courses.specs.declared.Extremes.{Extremes}
 use Rattle.script.specs.Check.{textsAnswer, textsAfter}
 use Rattle.invariant.specs.Representable.{Every, EventFits}
-use Rattle.demand3.proofs.SameButTimeConstant.{Alike, alike-then, alike-value, alike-allows, alike-after, alike-acquisition}
-use Rattle.demand3.proofs.SameButTimeConstant.{alike-sampling, after-settings, after-acquisition, after-installation, crossed-settings}
-use Rattle.demand3.proofs.SameButTimeConstant.{crossed-acquisition}
-use Rattle.demand3.proofs.EventStep.{harm-kept}
+use Rattle.demand3.proofs.SameButTimeConstant.{Alike, alike-then, alike-value, alike-allows, alike-after}
+use Rattle.demand3.proofs.SameButTimeConstant.{alike-acquisition}
+use Rattle.demand3.proofs.SameButTimeConstant.{alike-sampling, after-settings, after-acquisition}
+use Rattle.demand3.proofs.SameButTimeConstant.{after-installation, settled-settings}
+use Rattle.demand3.proofs.SameButTimeConstant.{alike-settled, settled-acquisition}
+use Rattle.settings.proofs.Values.{harm-kept}
 use Rattle.demand3.proofs.FirstRefusal.{not-passed, not-done, answer-passed, answer-split}
 use Rattle.demand3.proofs.Commands.{kind-done, valid-done, effectIn, run-rest, step-passed, step-refused}
 use Rattle.demand3.proofs.Commands.{run-refused}
@@ -87,7 +89,8 @@ side-allows d b kind e =
     (λ u. reset-allows kind (b .settings) (side d b) u)
 
 side-after : (d : Side) (model : Model) (kind : Kind) (b : Extremes)
-    → side d (kindAfter model kind b) ≡ acquisitionAfter kind (b .settings) (side d b) (model .capacity)
+    → side d (kindAfter model kind b) ≡ acquisitionAfter kind (settingsAfter kind (b .settings)) (side d b)
+    (model .capacity)
 unfolding kindAfter
 side-after low model kind b = refl
 side-after high model kind b = refl
@@ -106,7 +109,8 @@ module _ (d : Side) (model : Model) (b : Extremes) (s : State) (i : At d model b
             (alike-after (s .settings) (b .settings) (i .alike) kind);
         acquisition =
             after-acquisition kind s
-            ∙ (alike-acquisition (s .settings) (b .settings) (i .alike) kind (s .acquisition) (s .installation .capacity)
+            ∙ (alike-acquisition (settingsAfter kind (s .settings)) (settingsAfter kind (b .settings))
+            (alike-after (s .settings) (b .settings) (i .alike) kind) kind (s .acquisition) (s .installation .capacity)
             ∙ (rw (i .same .capacity, i .acquisition) (sym (side-after d model kind b))));
       }
 
@@ -168,7 +172,8 @@ parsed-refuses model b (parsed.Taken c) r e n =
 at-step : (d : Side) (model : Model) (room : ℕ) (t : List ℕ) (l : Line) (b : Extremes) → At d model b (l .after)
     → textRefusal (parsedOf t) b ≡ outcome.Done
     → afterCommand room t l .report .dropped ≡ false
-    → (effectIn room t l .report ≡ outcome.Done) × At d model (textAfter model (parsedOf t) b) (afterCommand room t l .after)
+    → (effectIn room t l .report ≡ outcome.Done) × At d model (textAfter model (parsedOf t) b)
+    (afterCommand room t l .after)
 unfolding afterCommand afterOf
 at-step d model room t l b i e f =
     at-parsed d model b (l .after) i (room - length (l .out)) (waits (l .out)) (parsedOf t) (l .one) (l .two) e f
@@ -208,7 +213,8 @@ run-refuses model b n (t ∷ ts) r p e z =
           let rest = run-rest room t ts l c in
           let k = at-step (w .0) model room t l b i f (rest .0) in
           rw (rest .1)
-          ((w .1) room (afterCommand room t l) (count-step room t l ∙ ap (λ (x : ℕ). x + 1) m) (step-passed room t l a (k .0))
+          ((w .1) room (afterCommand room t l) (count-step room t l ∙ ap (λ (x : ℕ). x + 1) m)
+          (step-passed room t l a (k .0))
           (k .1) (rw (rest .1) at c)),
     ))
     (λ f g.
@@ -263,18 +269,21 @@ module _ (x : Settings) (s : State) (a : Alike (s .settings) x) (k : valuesValid
       rw (takes-highest, alike-value a fmod (λ q. omega arith)) (by (isInternal x))
     where
       taken : State
-      taken = crossedFrom (detectionNow s) (withExternal (highest x) s)
+      taken = settled (withExternal (highest x) s)
 
       by : (t : Bool) → (cond t s taken .installation ≡ s .installation) × Alike (cond t s taken .settings) x
-          × (cond t s taken .acquisition ≡ cond t m (atFrequency (highest x) m))
+          × (cond t s taken .acquisition ≡ cond t m (rangeSettled x (atFrequency (highest x) m)))
       by true = (refl, a, e)
       by false = (
-        unfold crossedFrom in refl,
-        alike-then (crossed-settings (detectionNow s) (withExternal (highest x) s)) a,
-        crossed-acquisition (detectionNow s) (withExternal (highest x) s) ∙ ap (atFrequency (highest x)) e,
+        unfold settled in refl,
+        alike-then (settled-settings (withExternal (highest x) s)) a,
+        settled-acquisition (withExternal (highest x) s)
+            ∙ (alike-settled (s .settings) x a (atFrequency (highest x) (s .acquisition))
+            ∙ ap (λ (n : Acquisition). rangeSettled x (atFrequency (highest x) n)) e),
       )
 
-pub triggered-at : (model : Model) (x : Settings) (s : State) (m : Acquisition) (one two : List ℕ) → OfModel model (s .installation)
+pub triggered-at : (model : Model) (x : Settings) (s : State) (m : Acquisition) (one two : List ℕ)
+    → OfModel model (s .installation)
     → Alike (s .settings) x → s .acquisition ≡ m →
     let t = eventOf Trigger s one two .after in
     (t .installation ≡ s .installation) × Alike (t .settings) x × (t .acquisition ≡ triggeredHigh (model .capacity) x m)

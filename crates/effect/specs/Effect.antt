@@ -1,8 +1,7 @@
--- What a command that is not refused changes: §1.1, §5.4, §6.6, §6.7, §7.2, §7.6, §10.2, §10.3, §10.4 and §11.2.
+-- What a command that is not refused changes: §1.1, §5.4, §6.5, §6.7, §6.8, §7.2, §7.6, §10.2, §10.3, §10.4 and §11.2.
 use Prim.Native.Nat.{ℕ}
 use mathlib.Core.Bool.{Bool, true, false, cond}
 use Rattle.settings.specs.Table.{startSettings, nextEntry, withValue}
-use Rattle.settings.specs.Frequency.{externalStart}
 use Rattle.settings.specs.declared.Settings.{Settings}
 use Rattle.storage.specs.Storage.{emptiedStorage, startedOf, pausedOf, triggeredOf}
 use Rattle.storage.specs.declared.Storage.{Storage}
@@ -19,8 +18,8 @@ use Rattle.command.specs.declared.QueryArgument.{QueryArgument}
 use Rattle.command.specs.declared.QueryArgument.the-variants as query
 use Rattle.command.specs.declared.Kind.{Kind}
 use Rattle.command.specs.declared.Kind.the-variants.{Set, Query, Act}
-use Rattle.state.specs.State.{atFrequency, withStorage, withSettings, withAcquisition, withRegisters, withEnables}
-use Rattle.state.specs.State.{withStorageOf, samplingOf, detectionNow, crossedFrom}
+use Rattle.state.specs.State.{startAcquisition, withStorage, withSettings, withAcquisition, withRegisters, withEnables}
+use Rattle.state.specs.State.{withStorageOf, samplingOf, rangeSettled, settled}
 use Rattle.state.specs.Storing.{sampledBy}
 use Rattle.state.specs.declared.Acquisition.{Acquisition}
 use Rattle.state.specs.declared.State.{State}
@@ -51,7 +50,7 @@ setIn s (set.EnableBit r i v) = s
 unfoldable pub restoredBy : Action → Settings → Settings
 restoredBy a s = cond (isRst a) startSettings s
 
--- §1.1: the settings after a command, but for what a crossing of 200 Hz does (§6.6)
+-- §1.1: the settings after a command, but for what the frequency range does to the time constant (§6.7)
 unfoldable pub settingsAfter : Kind → Settings → Settings
 settingsAfter (Set a) s = setIn s a
 settingsAfter (Query q) s = s
@@ -78,22 +77,22 @@ storageAfter (Set a) s m capacity = unstored (m .storage)
 storageAfter (Query q) s m capacity = unstored (m .storage)
 storageAfter (Act a) s m capacity = storageBy a (m .storage) capacity (samplingOf s)
 
--- ---- the acquisition: storage, and the external frequency, which *RST takes to its start
+-- ---- the acquisition: a set may change the frequency range, *RST takes all to their start
 
--- §11.2: the external frequency after an action: *RST takes it to its start
-unfoldable pub externalBy : Action → ℕ → ℕ
-externalBy a f = cond (isRst a) externalStart f
+-- §11.2: the acquisition after an action, but for what the action does to storage
+unfoldable pub restartedBy : Action → Acquisition → Acquisition
+restartedBy a m = cond (isRst a) startAcquisition m
 
--- §1.1: the external frequency after a command: sets and queries leave it as it is
-unfoldable pub externalAfter : Kind → ℕ → ℕ
-externalAfter (Set a) f = f
-externalAfter (Query q) f = f
-externalAfter (Act a) f = externalBy a f
+-- §7.2, §7.6 and §11.2: the acquisition after an action that leaves the settings x: with its storage
+unfoldable pub acquisitionBy : Action → Settings → Acquisition → ℕ → Acquisition
+acquisitionBy a x m capacity =
+    withStorage (storageBy a (m .storage) capacity (samplingOf x) .storage) (restartedBy a m)
 
--- §7.2, §7.6 and §11.2: the acquisition after a command: its storage and its external frequency
+-- §1.1: the acquisition after a command that leaves the settings x; §6.5: after a set in the range at its frequency
 unfoldable pub acquisitionAfter : Kind → Settings → Acquisition → ℕ → Acquisition
-acquisitionAfter kind s m capacity =
-    withStorage (storageAfter kind s m capacity .storage) (atFrequency (externalAfter kind (m .external)) m)
+acquisitionAfter (Set a) x m capacity = rangeSettled x m
+acquisitionAfter (Query q) x m capacity = m
+acquisitionAfter (Act a) x m capacity = acquisitionBy a x m capacity
 
 -- ---- the registers: the query of an event register clears it, or the one bit asked for
 
@@ -120,21 +119,19 @@ enablesSet (set.Pair entry v w) e = e
 
 -- ---- the state: what no definition above changes stays
 
--- §5.4 and §10.3: the state after a set: the setting or the enable that it names; §6.6 and §6.7: and what a crossing of
--- 200 Hz does
+-- §5.4 and §10.3: the state after a set: the setting or the enable that it names; §6.5, §6.7 and §6.8: and what the
+-- frequency range does
 abbrev pub setBy : SetArgument → State → State
-setBy a s =
-    crossedFrom (detectionNow s) (withSettings (setIn (s .settings) a) (withEnables (enablesSet a (s .enables)) s))
+setBy a s = settled (withSettings (setIn (s .settings) a) (withEnables (enablesSet a (s .enables)) s))
 
 -- §10.2: the state after a query
 abbrev pub queriedBy : QueryArgument → State → State
 queriedBy q s = withRegisters (registersAsked q (s .registers)) s
 
--- §11.2: the state after *RST, which does p to storage: settings and external frequency start anew; no crossing's rule
--- follows, so no LIA bit is set
+-- §11.2: the state after *RST, which does p to storage: settings, external frequency and frequency range start anew; no
+-- LIA bit is set
 abbrev pub resetBy : StorageStep → State → State
-resetBy p s =
-    withStorageOf p (withSettings startSettings (withAcquisition (atFrequency externalStart (s .acquisition)) s))
+resetBy p s = withStorageOf p (withSettings startSettings (withAcquisition startAcquisition s))
 
 -- §10.4: the state after *CLS, which does p to storage: all three registers are cleared
 abbrev pub clearedBy : StorageStep → State → State

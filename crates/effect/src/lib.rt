@@ -1,7 +1,7 @@
 // What a command changes: the settings, what events change too, the registers and the enables.
 ghost use mathlib.Core.Path.{_≡_};
 ghost use Rattle.effect.specs.Effect.{isRst, withPair, setIn, restoredBy, settingsAfter};
-ghost use Rattle.effect.specs.Effect.{unstored, storageBy, storageAfter, externalBy, externalAfter};
+ghost use Rattle.effect.specs.Effect.{unstored, storageBy, storageAfter, restartedBy, acquisitionBy};
 ghost use Rattle.effect.specs.Effect.{acquisitionAfter, registersAsked, enablesSet};
 ghost use Rattle.effect.specs.Effect.{setBy, queriedBy, resetBy, clearedBy, actedBy, stateBy};
 use command::Kind;
@@ -61,7 +61,7 @@ fn restored(s: Settings, a: Action) -> Settings
     s
 }
 
-// The settings after a command, but for what a crossing of 200 Hz does.
+// The settings after a command, but for what the frequency range does to the time constant.
 pub fn settings_after(s: Settings, kind: Kind) -> Settings
     ensures { λ r. ⌜ r ≡ settingsAfter kind s ⌝ }
 {
@@ -108,37 +108,36 @@ pub fn storage_after(s: Settings, m: Acquisition, capacity: u32, kind: Kind) -> 
     }
 }
 
-// The external frequency after an action.
-fn external_by(external: u32, a: Action) -> u32
-    ensures { λ r. ⌜ r ≡ externalBy a external ⌝ }
+// The acquisition after an action, but for what the action does to storage.
+fn restarted(m: Acquisition, a: Action) -> Acquisition
+    ensures { λ r. ⌜ r ≡ restartedBy a m ⌝ }
 {
     if is_rst(a) {
-        return Settings::FREQUENCY_START;
+        return Acquisition::start();
     }
-    external
+    m
 }
 
-// The external frequency after a command.
-fn external_after(external: u32, kind: Kind) -> u32
-    ensures { λ r. ⌜ r ≡ externalAfter kind external ⌝ }
+// The acquisition after an action that leaves these settings.
+fn acquisition_by(s: Settings, m: Acquisition, capacity: u32, a: Action) -> Acquisition
+    ensures { λ r. ⌜ r ≡ acquisitionBy a s m capacity ⌝ }
 {
-    match kind {
-        Kind::Set(_) => external,
-        Kind::Query(_) => external,
-        Kind::Act(a) => external_by(external, a),
-    }
+    let p = storage_by(m.storage, capacity, state::sampling_of(s), a);
+    let storage = p.storage;
+    let mut t = restarted(m, a);
+    t.storage = storage;
+    t
 }
 
-// The acquisition after a command.
+// The acquisition after a command that leaves these settings.
 pub fn acquisition_after(s: Settings, m: Acquisition, capacity: u32, kind: Kind) -> Acquisition
     ensures { λ r. ⌜ r ≡ acquisitionAfter kind s m capacity ⌝ }
 {
-    let p = storage_after(s, m, capacity, kind);
-    let storage = p.storage;
-    let mut t = m;
-    t.external = external_after(m.external, kind);
-    t.storage = storage;
-    t
+    match kind {
+        Kind::Set(_) => state::range_settled(s, m),
+        Kind::Query(_) => m,
+        Kind::Act(a) => acquisition_by(s, m, capacity, a),
+    }
 }
 
 // The registers after a query.
@@ -172,14 +171,14 @@ fn enables_set(e: Enables, a: SetArgument) -> Enables
     }
 }
 
-// The state after a set: what it names, and what a crossing of 200 Hz does.
+// The state after a set: what it names, and what the frequency range does.
 fn set_state(s: State, a: SetArgument) -> State
     ensures { λ r. ⌜ r ≡ setBy a s ⌝ }
 {
     let mut t = s;
     t.enables = enables_set(s.enables, a);
     t.settings = set_in(s.settings, a);
-    state::crossed(t, state::detection_now(s))
+    state::settled(t)
 }
 
 // The state after a query.
@@ -197,7 +196,7 @@ fn reset(s: State, p: StorageStep) -> State
 {
     let mut t = s;
     t.settings = Settings::start();
-    t.acquisition.external = Settings::FREQUENCY_START;
+    t.acquisition = Acquisition::start();
     state::with_storage_of(t, p)
 }
 

@@ -11,12 +11,12 @@ use Rattle.storage.specs.declared.StorageStep.{StorageStep}
 use Rattle.status.specs.Status as status
 use Rattle.status.specs.declared.Registers.{Registers}
 use Rattle.status.proofs.Preserved.{lia-keeps, raised-keeps}
-use Rattle.state.specs.State.{pairOf, atFrequency, withRegisters, withLatest, detectionNow, crossedFrom}
+use Rattle.state.specs.State.{pairOf, atFrequency, withRegisters, withLatest, settled}
 use Rattle.state.specs.Storing.{triggerOf, tickOf, sampledBy, storedIn}
 use Rattle.state.specs.Valid.{latestValid, validState}
 use Rattle.state.specs.declared.State.{State}
-use Rattle.state.proofs.Sound.{Tuning, sound, sound-valid, with-acquisition, with-status, with-latest, crossed-valid}
-use Rattle.state.proofs.Sound.{tick-valid, trigger-valid}
+use Rattle.state.proofs.Sound.{Tuning, sound, ranged, sound-valid, with-acquisition, with-status, with-latest}
+use Rattle.state.proofs.Sound.{settled-valid, tick-valid, trigger-valid}
 use Rattle.event.specs.Event.{notTaken, done, refused, latestTaken, takesFrequency, withExternal, measuredBy}
 use Rattle.event.specs.Event.{bitsRaised, sampledIn, eventOf}
 use Rattle.event.specs.declared.Event.{Event}
@@ -34,7 +34,7 @@ pub record EventPreserves (e : Event) (s : State) (one two : List ℕ) : Type 0 
 module _ (s : State) (h : validState s ≡ true) where
   -- other registers
   registers-stay : (r : Registers) → status.isValid r (s .enables) ≡ true → validState (withRegisters r s) ≡ true
-  registers-stay r p = sound-valid (withRegisters r s) (with-status (sound s h) r (s .enables) p)
+  registers-stay r p = sound-valid (withRegisters r s) (with-status (sound s h) r (s .enables) p) (ranged s h)
 
   -- a new latest pair, taken or refused
   pair-stays : (w v : ℕ) → validState (latestTaken w v s .state) ≡ true
@@ -42,7 +42,7 @@ module _ (s : State) (h : validState s ≡ true) where
   pair-stays w v = by (latestValid (pairOf w v)) refl where
     by : (t : Bool) → latestValid (pairOf w v) ≡ t
         → validState (cond t (done (withLatest (pairOf w v) s)) (refused s) .state) ≡ true
-    by true p = sound-valid (withLatest (pairOf w v) s) (with-latest (sound s h) (pairOf w v) p)
+    by true p = sound-valid (withLatest (pairOf w v) s) (with-latest (sound s h) (pairOf w v) p) (ranged s h)
     by false p = h
 
   -- raised bits, taken or refused
@@ -59,19 +59,18 @@ module _ (s : State) (h : validState s ≡ true) where
 
   -- a frequency that is taken is in its range, and the detection frequency that it makes within the limit
   external-stays : (f : ℕ) → isInternal (s .settings) ≡ false → takesFrequency s f ≡ true
-      → validState (crossedFrom (detectionNow s) (withExternal f s)) ≡ true
+      → validState (settled (withExternal f s)) ≡ true
   unfolding takesFrequency
   external-stays f m p =
       let k = sound s h in
       let both = and-eq-true-iff (frequencyInRange f) (withinLimit (valueOf (s .settings) harm * f)) .0 p in
-      let t : Tuning (detectionNow s) (s .settings) f =
+      let t : Tuning (s .settings) f =
       record {
         values = k .tuned .values;
         external = both .0;
         limit = unfold detectionOf inForce in rw m (both .1);
-        stands = k .tuned .stands;
       } in
-      crossed-valid (detectionNow s) (withExternal f s)
+      settled-valid (withExternal f s)
       (with-acquisition k (s .settings) (atFrequency f (s .acquisition)) t (k .stored))
 
   -- a measured frequency: ignored, taken, or not taken
@@ -81,7 +80,7 @@ module _ (s : State) (h : validState s ≡ true) where
     by : (m : Bool) → isInternal (s .settings) ≡ m → (t : Bool) → takesFrequency s f ≡ t
         → validState
         (cond m s
-        (cond t (crossedFrom (detectionNow s) (withExternal f s))
+        (cond t (settled (withExternal f s))
         (withRegisters (status.withLia (s .registers) notTaken) s)))
         ≡ true
     by true q t p = h
@@ -101,32 +100,38 @@ event-stays (Raised lia errors) s one two h = raised-stays s h lia errors
 
 -- ---- what is fixed at start
 
-installation-either : (t : Bool) (a b : State) → a .installation ≡ b .installation → cond t (done a) (refused b) .state .installation ≡ b .installation
+installation-either : (t : Bool) (a b : State) → a .installation ≡ b .installation
+    → cond t (done a) (refused b) .state .installation ≡ b .installation
 installation-either true a b p = p
 installation-either false a b p = refl
 
-installation-measured : (m t : Bool) (a b s : State) → a .installation ≡ s .installation → b .installation ≡ s .installation
+installation-measured : (m t : Bool) (a b s : State) → a .installation ≡ s .installation
+    → b .installation ≡ s .installation
     → cond m s (cond t a b) .installation ≡ s .installation
 installation-measured true t a b s p q = refl
 installation-measured false true a b s p q = p
 installation-measured false false a b s p q = q
 
-pub event-installation : (e : Event) (s : State) (one two : List ℕ) → eventOf e s one two .after .installation ≡ s .installation
-unfolding eventOf latestTaken bitsRaised measuredBy crossedFrom sampledIn sampledBy
-event-installation (Latest w v) s one two = installation-either (latestValid (pairOf w v)) (withLatest (pairOf w v) s) s refl
+pub event-installation : (e : Event) (s : State) (one two : List ℕ)
+    → eventOf e s one two .after .installation ≡ s .installation
+unfolding eventOf latestTaken bitsRaised measuredBy settled sampledIn sampledBy
+event-installation (Latest w v) s one two = installation-either (latestValid (pairOf w v))
+    (withLatest (pairOf w v) s) s refl
 event-installation Tick s one two = refl
 event-installation Trigger s one two = refl
 event-installation (Measured f) s one two =
     installation-measured (isInternal (s .settings)) (takesFrequency s f)
-    (crossedFrom (detectionNow s) (withExternal f s))
+    (settled (withExternal f s))
     (withRegisters (status.withLia (s .registers) notTaken) s)
     s refl refl
 event-installation (Raised lia errors) s one two =
-    installation-either (status.mayRaise lia errors) (withRegisters (status.withRaised (s .registers) lia errors) s) s refl
+    installation-either (status.mayRaise lia errors)
+    (withRegisters (status.withRaised (s .registers) lia errors) s) s refl
 
 -- ---- the lengths of the traces
 
-pub stored-length : (p : StorageStep) (s : State) (w : ℕ) (trace : List ℕ) → length (storedIn p s w trace) ≡ length trace
+pub stored-length : (p : StorageStep) (s : State) (w : ℕ) (trace : List ℕ)
+    → length (storedIn p s w trace) ≡ length trace
 unfolding storedIn
 stored-length p s w trace = by (p .stores) where
   by : (t : Bool) → length (cond t (set trace (s .acquisition .storage .next) w) trace) ≡ length trace

@@ -10,7 +10,7 @@ use Rattle.settings.specs.Frequency.{isInternal, withinLimit, frequencyInRange}
 use Rattle.status.specs.Status.{withLia, withRaised, mayRaise}
 use Rattle.storage.specs.declared.StorageStep.{StorageStep}
 use Rattle.state.specs.State.{pairOf, atFrequency, withAcquisition, withRegisters, withLatest}
-use Rattle.state.specs.State.{detectionNow, crossedFrom}
+use Rattle.state.specs.State.{settled}
 use Rattle.state.specs.Storing.{triggerOf, tickOf, sampledBy, storedIn}
 use Rattle.state.specs.Valid.{latestValid}
 use Rattle.state.specs.declared.State.{State}
@@ -53,11 +53,11 @@ abbrev pub notTaken : ℕ
 notTaken = 2 ^ 3
 
 -- §9.2: a measured frequency is ignored in internal mode; §9.3: one that is not taken sets LIA bit 3, and the event
--- still ends as done; §6.6 and §6.7: one that is taken may cross 200 Hz
+-- still ends as done; §6.5, §6.7 and §6.8: one that is taken may change the frequency range
 unfoldable pub measuredBy : ℕ → State → State
 measuredBy f s =
     cond (isInternal (s .settings)) s
-    (cond (takesFrequency s f) (crossedFrom (detectionNow s) (withExternal f s))
+    (cond (takesFrequency s f) (settled (withExternal f s))
     (withRegisters (withLia (s .registers) notTaken) s))
 
 -- §9.4: bits that are raised from outside, where an event may raise them; else 6

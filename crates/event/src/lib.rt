@@ -82,8 +82,7 @@ fn measured(s: State, frequency: u32) -> State
         return s;
     }
     if takes_frequency(s, frequency) {
-        let old = state::detection_now(s);
-        return state::crossed(with_external(s, frequency), old);
+        return state::settled(with_external(s, frequency));
     }
     let mut t = s;
     t.registers = status::with_lia(s.registers, NOT_TAKEN);

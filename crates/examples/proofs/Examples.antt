@@ -11,7 +11,7 @@ use Rattle.point.specs.Point.{magnitudeOf, isLegal, highest, singleOf, floatOf}
 use Rattle.point.specs.Bytes.{lowFirst, littleEndian}
 use Rattle.format.specs.Text.{padded, digitCountIn, plain, fixed, sign, signedText}
 use Rattle.settings.specs.Table as settings
-use Rattle.settings.specs.Frequency.{stepBy, inForce, detectionOf, crossingOf}
+use Rattle.settings.specs.Frequency.{stepBy, inForce, detectionOf, rangeAt, rangeEffectOf}
 use Rattle.settings.specs.Setting.{turnedAt, settingOf, stepOf}
 use Rattle.settings.specs.Valid.{valueValid, every, valuesValid, validSettings}
 use Rattle.command.specs.Arguments.{arguments}
@@ -20,11 +20,12 @@ use Rattle.storage.specs.Storage as storage
 use Rattle.status.specs.Bits.{meets}
 use Rattle.status.specs.Status as status
 use Rattle.reply_buffer.specs.Buffer.{fitsIn, wordAt, formed, pointBytes}
-use Rattle.state.specs.State.{startState, crossedFrom, withErrorBit, samplingOf}
+use Rattle.state.specs.State.{startState, rangeSettled, settled, withErrorBit, samplingOf}
 use Rattle.state.specs.Storing.{sampledBy, storedIn}
 use Rattle.state.specs.Valid.{installationValid, latestValid, partsValid, validState}
 use Rattle.precondition.specs.Allowed.{staysWithinLimit, valueAllowed, setAllowed, queryAllowed, isAllowed}
-use Rattle.effect.specs.Effect.{setIn, restoredBy, settingsAfter, storageBy, storageAfter, acquisitionAfter, stateAfter}
+use Rattle.effect.specs.Effect.{setIn, restoredBy, settingsAfter, storageBy, storageAfter, restartedBy, acquisitionBy}
+use Rattle.effect.specs.Effect.{acquisitionAfter, stateAfter}
 use Rattle.reply.specs.Text.{valueNow, valueText, textOf}
 use Rattle.reply.specs.Reply.{terminatedText, traceReply, queryReply, replyOf}
 use Rattle.outcome.specs.Answer.{firstOf, isNoRoom, drops, numbered, numbersOf}
@@ -36,7 +37,8 @@ use Rattle.module.specs.Start.{installationKnown, tracesFit, freshModule}
 use Rattle.module.specs.Module.{validModule, guardOf}
 use Rattle.lockin.specs.Start.{startCall}
 use Rattle.lockin.specs.Calls.{guarded, lineEnd, wholeEnd, wholeLine, lineCall, eventCall}
-use Rattle.extreme_courses.specs.Extremes.{resets, measuredHigh, triggeredHigh, beforeLine, kindRefusal, textRefusal, kindAfter, textAfter}
+use Rattle.extreme_courses.specs.Extremes.{resets, measuredHigh, triggeredHigh, beforeLine, kindRefusal, textRefusal}
+use Rattle.extreme_courses.specs.Extremes.{kindAfter, textAfter}
 use Rattle.script.specs.Check.{answerAt, textsAnswer, textsAfter, lineAnswer, foundBy, finding, withoutLast, checkOf}
 use Rattle.verdict.specs.Numbers.{verdictNumbers}
 use Rattle.examples.specs.Examples.{lineSeen, low16, pointWord, floatSeen, seenOf, exampleTable, Examples}
@@ -46,21 +48,49 @@ pub examples : Examples
 unfolding span onHead parts allDigits begins unsigned isMantissa isNumber decimalAfter exactOf inRange argumentOf
     cleaned meaningIn arguments one three setSetting queryTrace alone setWith queryWith parsedOf
     padded digitCountIn plain fixed sign signedText
-    leadingZeros pattern magnitudeOf isLegal highest singleOf floatOf lowFirst littleEndian fitsIn wordAt formed pointBytes
-    settings.table settings.turnedOf settings.rowOf settings.startSettings stepBy inForce detectionOf crossingOf turnedAt settingOf stepOf
+    leadingZeros pattern magnitudeOf isLegal highest singleOf floatOf lowFirst littleEndian fitsIn wordAt formed
+    pointBytes
+    settings.table settings.turnedOf settings.rowOf settings.startSettings stepBy inForce detectionOf rangeAt
+    rangeEffectOf turnedAt settingOf
+    stepOf
     valueValid every valuesValid validSettings
-    storage.isReset storage.isRunning storage.isDone storage.startedOf storage.nextSlot storage.heldAfter storage.fullInOneShot storage.storedOf
-    storage.readiedOf storage.triggerStores storage.triggeredOf storage.oldestOf storage.holdsOf storage.slotsKept storage.doneKept storage.resetKept
+    storage.isReset storage.isRunning storage.isDone storage.startedOf storage.nextSlot storage.heldAfter
+    storage.fullInOneShot storage.storedOf
+    storage.readiedOf storage.triggerStores storage.triggeredOf storage.oldestOf storage.holdsOf storage.slotsKept
+    storage.doneKept storage.resetKept
     storage.isValid meets status.isValid
-    startState crossedFrom withErrorBit samplingOf sampledBy storedIn installationValid latestValid partsValid validState
+    startState rangeSettled settled withErrorBit samplingOf sampledBy storedIn installationValid latestValid partsValid
+    validState
     staysWithinLimit valueAllowed setAllowed queryAllowed isAllowed
-    setIn restoredBy settingsAfter storageBy storageAfter acquisitionAfter stateAfter
+    setIn restoredBy settingsAfter storageBy storageAfter restartedBy acquisitionBy acquisitionAfter stateAfter
     valueNow valueText textOf terminatedText traceReply queryReply replyOf
     doneBy performed commandOf firstOf isNoRoom drops line.afterOf line.afterCommand line.runAll line.lineOf
     latestTaken eventOf queue.noEnd queue.isValid
     installationKnown tracesFit freshModule startCall
     numbered numbersOf validModule guardOf guarded lineEnd wholeEnd wholeLine lineCall eventCall
-    resets measuredHigh triggeredHigh beforeLine kindRefusal textRefusal kindAfter textAfter answerAt textsAnswer textsAfter
+    resets measuredHigh triggeredHigh beforeLine kindRefusal textRefusal kindAfter textAfter answerAt textsAnswer
+    textsAfter
     lineAnswer foundBy finding withoutLast checkOf
     lineSeen low16 pointWord floatSeen verdictNumbers seenOf exampleTable
-examples = (refl, (refl, (refl, (refl, (refl, (refl, (refl, (refl, (refl, (refl, (refl, (refl, (refl, (refl, (refl, (refl, tt))))))))))))))))
+examples = (
+  refl,
+  (
+    refl,
+    (
+      refl,
+      (
+        refl,
+        (
+          refl,
+          (
+            refl,
+            (
+              refl,
+              (refl, (refl, (refl, (refl, (refl, (refl, (refl, (refl, (refl, (refl, tt)))))))))),
+            ),
+          ),
+        ),
+      ),
+    ),
+  ),
+)

@@ -1,5 +1,5 @@
 -- The table of examples, each with what it shows, and the statement that the public calls show it: §4.3, §4.4, §4.5,
--- §5.2, §5.3, §6.3, §6.5, §8.2, §13.7 and §13.8.
+-- §5.2, §5.3, §6.3, §6.5, §6.6, §8.2, §13.7 and §13.8.
 use Prim.Native.Nat.{ℕ, _+_, _-_, _*_}
 use Prim.Native.String.{String}
 use mathlib.Core.Path.{_≡_}
@@ -134,10 +134,13 @@ exampleTable =
     ∷ row (line "HARM 102") (passes (keeping harm 102 startSettings) [])
     ∷ row (line "HARM 103") (refuses 3 1 startSettings)
     ∷ row (line "HARM 5.4") (refuses 2 1 startSettings)
-    -- §6.5: a long time constant is allowed up to 200 Hz
+    -- §6.6: a long time constant is allowed in the lower range; §6.5: a frequency below the band leads there, and one
+    -- inside it does not
     ∷ row (line "FREQ 100;HARM 2;OFLT 14")
     (passes (keeping oflt 14 (keeping harm 2 (keeping freq 1000000 startSettings))) [])
-    ∷ row (line "FREQ 100.01;HARM 2;OFLT 14") (refuses 3 3 (keeping harm 2 (keeping freq 1000100 startSettings)))
+    ∷ row (line "FREQ 100.01;HARM 2;OFLT 14")
+    (passes (keeping oflt 14 (keeping harm 2 (keeping freq 1000100 startSettings))) [])
+    ∷ row (line "HARM 2;FREQ 100;OFLT 14") (refuses 3 3 (keeping freq 1000000 (keeping harm 2 startSettings)))
     -- §8.2: points as floats: 1, -1.5, the largest m, and the lowest point of all
     ∷ row (trcb (plus 1) 124) (sends 0x00 0x00 0x80 0x3F)
     ∷ row (trcb (minus 3) 123) (sends 0x00 0x00 0xC0 0xBF)
@@ -153,7 +156,7 @@ abbrev pub AllRows : List Row → Type 0
 AllRows [] = Unit {0}
 AllRows (r ∷ rs) = (seenOf (r .example) ≡ r .shows) × AllRows rs
 
--- §4.3, §4.4, §4.5, §5.2, §5.3, §6.3, §6.5, §8.2, §8.4, §13.7 and §13.8: every example of the table does, in one
+-- §4.3, §4.4, §4.5, §5.2, §5.3, §6.3, §6.5, §6.6, §8.2, §8.4, §13.7 and §13.8: every example of the table does, in one
 -- statement
 abbrev pub Examples : Type 0
 Examples = AllRows exampleTable

@@ -13,7 +13,7 @@ use Rattle.command.specs.declared.Kind.{Kind}
 use Rattle.command.specs.declared.Kind.the-variants.{Set, Query, Act}
 use Rattle.command.specs.declared.Parsed.{Parsed}
 use Rattle.command.specs.declared.Parsed.the-variants as parsed
-use Rattle.state.specs.State.{atFrequency, withStorage, samplingOf, startAcquisition}
+use Rattle.state.specs.State.{atFrequency, withStorage, samplingOf, startAcquisition, rangeSettled}
 use Rattle.state.specs.declared.Acquisition.{Acquisition}
 use Rattle.precondition.specs.Allowed.{isAllowed}
 use Rattle.effect.specs.Effect.{isRst, settingsAfter, acquisitionAfter}
@@ -30,7 +30,7 @@ resets (Act a) = isRst a
 -- where FMOD is 0 ..
 unfoldable pub measuredHigh : Settings → Acquisition → Acquisition
 measuredHigh s m =
-    cond (isInternal s) m (atFrequency (detectionLimit / valueOf s harm) m)
+    cond (isInternal s) m (rangeSettled s (atFrequency (detectionLimit / valueOf s harm) m))
 
 -- §13.9: .. and then has a trigger
 unfoldable pub triggeredHigh : ℕ → Settings → Acquisition → Acquisition
@@ -64,11 +64,12 @@ textRefusal (parsed.Taken c) b = kindRefusal (c .kind) b
 -- §13.9: both courses past a command that no course refuses
 unfoldable pub kindAfter : Model → Kind → Extremes → Extremes
 kindAfter model kind b =
+    let x = settingsAfter kind (b .settings) in
     record {
       begun = b .begun || resets kind;
-      settings = settingsAfter kind (b .settings);
-      low = acquisitionAfter kind (b .settings) (b .low) (model .capacity);
-      high = acquisitionAfter kind (b .settings) (b .high) (model .capacity);
+      settings = x;
+      low = acquisitionAfter kind x (b .low) (model .capacity);
+      high = acquisitionAfter kind x (b .high) (model .capacity);
     }
 
 -- §13.9: what is carried past a command's text

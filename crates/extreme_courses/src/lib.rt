@@ -81,7 +81,7 @@ fn measured_high(s: Settings, m: Acquisition) -> Acquisition
     }
     let mut t = m;
     t.external = highest(settings::value_of(s, settings::HARM));
-    t
+    state::range_settled(s, t)
 }
 
 // The acquisition once a trigger has come.
@@ -170,12 +170,12 @@ fn begun_after(begun: bool, kind: Kind) -> bool
 fn kind_after(model: Model, kind: Kind, b: Extremes) -> Extremes
     ensures { λ r. ⌜ r ≡ kindAfter model kind b ⌝ }
 {
-    let settings = b.settings;
+    let settings = effect::settings_after(b.settings, kind);
     let low = b.low;
     let high = b.high;
     Extremes {
         begun: begun_after(b.begun, kind),
-        settings: effect::settings_after(settings, kind),
+        settings,
         low: effect::acquisition_after(settings, low, model.capacity, kind),
         high: effect::acquisition_after(settings, high, model.capacity, kind),
     }

@@ -9,8 +9,8 @@ use borrow.Author.Tests.{eqb-true}
 use Rattle.outcome.specs.Code.{codeOf}
 use Rattle.outcome.specs.declared.Refusal.{Refusal}
 use Rattle.outcome.proofs.Every.{refusal-rule}
-use Rattle.settings.specs.Table.{oflt, send, nextEntry, valueOf, withValue}
-use Rattle.settings.specs.Frequency.{detectionOf, withinLimit, timeConstantStands}
+use Rattle.settings.specs.Table.{send, nextEntry, valueOf, withValue}
+use Rattle.settings.specs.Frequency.{detectionOf, withinLimit}
 use Rattle.settings.specs.Valid.{valueValid}
 use Rattle.settings.specs.declared.Settings.{Settings}
 use Rattle.settings.proofs.Invariant.{with-keeps}
@@ -31,14 +31,14 @@ use Rattle.command.specs.declared.QueryArgument.{QueryArgument}
 use Rattle.command.specs.declared.QueryArgument.the-variants as query
 use Rattle.command.specs.declared.Kind.{Kind}
 use Rattle.command.specs.declared.Kind.the-variants.{Set, Query, Act}
-use Rattle.state.specs.State.{withStorage, withSettings, withAcquisition, withRegisters, withEnables, detectionNow}
-use Rattle.state.specs.State.{crossedFrom, withErrorBit}
+use Rattle.state.specs.State.{withStorage, withSettings, withAcquisition, withRegisters, withEnables, settled}
+use Rattle.state.specs.State.{withErrorBit}
 use Rattle.state.specs.Storing.{triggerOf}
 use Rattle.state.specs.Valid.{validState}
 use Rattle.state.specs.declared.Acquisition.{Acquisition}
 use Rattle.state.specs.declared.State.{State}
-use Rattle.state.proofs.Sound.{Tuning, Stored, sound, sound-valid, with-acquisition, with-status, capacity-known}
-use Rattle.state.proofs.Sound.{reset-valid, crossed-valid, trigger-valid}
+use Rattle.state.proofs.Sound.{Tuning, Stored, sound, ranged, sound-valid, with-acquisition, with-status}
+use Rattle.state.proofs.Sound.{capacity-known, reset-valid, settled-valid, trigger-valid}
 use Rattle.precondition.specs.Allowed.{valueAllowed, setAllowed, isAllowed}
 use Rattle.precondition.proofs.Limit.{limit-after}
 use Rattle.effect.specs.Effect.{withPair, setIn, storageBy, storageAfter}
@@ -48,35 +48,29 @@ use Rattle.invariant.proofs.Storable.{channelLow, channelHigh, Storable
 
 -- ---- one more setting
 
--- an OFLT that is allowed may stand, and a SEND that is allowed finds storage reset
-constant-valid : (s : Settings) (m : Acquisition) (v : ℕ) → valueAllowed s m oflt v ≡ true →
-    timeConstantStands (detectionOf s (m .external)) v ≡ true
-unfolding valueAllowed
-constant-valid s m v p = p
-
-end-valid : (s : Settings) (m : Acquisition) (v : ℕ) → valueAllowed s m send v ≡ true → storage.isReset (m .storage) ≡ true
+-- a SEND that is allowed finds storage reset
+end-valid : (s : Settings) (m : Acquisition) (v : ℕ) → valueAllowed s m send v ≡ true
+    → storage.isReset (m .storage) ≡ true
 unfolding valueAllowed
 end-valid s m v p = p
 
--- settings beside an acquisition, the time constant standing at the detection frequency before
-record Holds (old : ℕ) (s : Settings) (m : Acquisition) (capacity : ℕ) : Type 0 where
-  tuned : Tuning old s (m .external)
+-- settings beside an acquisition, but for its frequency range
+record Holds (s : Settings) (m : Acquisition) (capacity : ℕ) : Type 0 where
+  tuned : Tuning s (m .external)
   stored : Stored s m capacity
 
-module _ (old : ℕ) (s : Settings) (m : Acquisition) (capacity : ℕ) (h : Holds old s m capacity) (e v : ℕ)
+module _ (s : Settings) (m : Acquisition) (capacity : ℕ) (h : Holds s m capacity) (e v : ℕ)
     (k : valueValid e v ≡ true) where
   -- one more value, where the rules on it are met
   holds-with : withinLimit (detectionOf (withValue s e v) (m .external)) ≡ true →
-      (oflt ≡ e → timeConstantStands old v ≡ true) → (send ≡ e → storage.isReset (m .storage) ≡ true) →
-      Holds old (withValue s e v) m capacity
-  holds-with limit constant end =
+      (send ≡ e → storage.isReset (m .storage) ≡ true) → Holds (withValue s e v) m capacity
+  holds-with limit end =
       record {
         tuned =
             record {
               values = with-keeps s e v (h .tuned .values) k;
               external = h .tuned .external;
               limit = limit;
-              stands = value-either s e v oflt (timeConstantStands old) constant (h .tuned .stands);
             };
         stored =
             value-either s e v send (storage.isValid (m .storage) capacity)
@@ -85,18 +79,16 @@ module _ (old : ℕ) (s : Settings) (m : Acquisition) (capacity : ℕ) (h : Hold
       }
 
   -- a setting with channels, which no rule binds
-  free-holds : channelLow ≤ e → e ≤ channelHigh → Holds old (withValue s e v) m capacity
+  free-holds : channelLow ≤ e → e ≤ channelHigh → Holds (withValue s e v) m capacity
   free-holds l u =
       holds-with
       (rw (detection-other s e v (λ p. omega arith) (λ p. omega arith) (λ p. omega arith) (m .external))
       (h .tuned .limit))
-      (λ p. absurd (omega arith)) (λ p. absurd (omega arith))
+      (λ p. absurd (omega arith))
 
   -- a value that is allowed
-  value-holds : detectionOf s (m .external) ≡ old → valueAllowed s m e v ≡ true → Holds old (withValue s e v) m capacity
-  value-holds d p =
-      holds-with (limit-after s m e v (h .tuned .limit) p) (λ q. rw (← d) (constant-valid s m v (rw (← q) at p)))
-      (λ q. end-valid s m v (rw (← q) at p))
+  value-holds : valueAllowed s m e v ≡ true → Holds (withValue s e v) m capacity
+  value-holds p = holds-with (limit-after s m e v (h .tuned .limit) p) (λ q. end-valid s m v (rw (← q) at p))
 
 -- ---- a state with other parts
 
@@ -105,15 +97,14 @@ bits-free : (r : Refusal) → bitAnd (codeOf r .bits) status.standardUnused ≡ 
 bits-free r = eqb-true _ 0 (refusal-rule (λ q. eqb (bitAnd (codeOf q .bits) status.standardUnused) 0) refl r)
 
 module _ (s : State) (h : validState s ≡ true) where
-  -- other settings and enables, the detection frequency moved
-  settings-stay : (t : Settings) (e : Enables) → Holds (detectionNow s) t (s .acquisition) (s .installation .capacity) →
-      status.isValid (s .registers) e ≡ true →
-      validState (crossedFrom (detectionNow s) (withSettings t (withEnables e s))) ≡ true
+  -- other settings and enables, and what the frequency range does
+  settings-stay : (t : Settings) (e : Enables) → Holds t (s .acquisition) (s .installation .capacity) →
+      status.isValid (s .registers) e ≡ true → validState (settled (withSettings t (withEnables e s))) ≡ true
   settings-stay t e k p =
-      crossed-valid (detectionNow s) (withSettings t (withEnables e s))
+      settled-valid (withSettings t (withEnables e s))
       (with-status (with-acquisition (sound s h) t (s .acquisition) (k .tuned) (k .stored)) (s .registers) e p)
 
-  holds-now : Holds (detectionNow s) (s .settings) (s .acquisition) (s .installation .capacity)
+  holds-now : Holds (s .settings) (s .acquisition) (s .installation .capacity)
   holds-now = record { tuned = sound s h .tuned; stored = sound s h .stored }
 
   set-stays : (a : SetArgument) → StorableSet a → setAllowed (s .settings) (s .acquisition) a ≡ true →
@@ -121,16 +112,15 @@ module _ (s : State) (h : validState s ≡ true) where
   unfolding stateAfter setIn withPair enablesSet setAllowed
   set-stays (set.Value entry v) k p =
       settings-stay (withValue (s .settings) entry v) (s .enables)
-      (value-holds (detectionNow s) (s .settings) (s .acquisition) (s .installation .capacity) holds-now entry v k refl p)
+      (value-holds (s .settings) (s .acquisition) (s .installation .capacity) holds-now entry v k p)
       (sound s h .bits)
   set-stays (set.Pair entry v w) k p =
-      let old = detectionNow s in
       let capacity = s .installation .capacity in
       let first =
-      free-holds old (s .settings) (s .acquisition) capacity holds-now entry v (k .first) (k .low)
+      free-holds (s .settings) (s .acquisition) capacity holds-now entry v (k .first) (k .low)
       (omega (arith, k .high, k .after)) in
       settings-stay (withPair (s .settings) entry v w) (s .enables)
-      (free-holds old (withValue (s .settings) entry v) (s .acquisition) capacity first (nextEntry entry) w (k .second)
+      (free-holds (withValue (s .settings) entry v) (s .acquisition) capacity first (nextEntry entry) w (k .second)
       (omega (arith, k .low, k .after)) (k .high))
       (sound s h .bits)
   set-stays (set.Enable which v) k p =
@@ -142,15 +132,17 @@ module _ (s : State) (h : validState s ≡ true) where
 
   -- other registers
   registers-stay : (r : Registers) → status.isValid r (s .enables) ≡ true → validState (withRegisters r s) ≡ true
-  registers-stay r p = sound-valid (withRegisters r s) (with-status (sound s h) r (s .enables) p)
+  registers-stay r p = sound-valid (withRegisters r s) (with-status (sound s h) r (s .enables) p) (ranged s h)
 
   -- another storage
   storage-stays : (t : Storage) → storage.isValid t (s .installation .capacity) (valueOf (s .settings) send) ≡ true →
       validState (withAcquisition (withStorage t (s .acquisition)) s) ≡ true
   storage-stays t p =
       let k = sound s h in
+      let r = ranged s h in
       sound-valid (withAcquisition (withStorage t (s .acquisition)) s)
       (with-acquisition k (s .settings) (withStorage t (s .acquisition)) (k .tuned) p)
+      (record { range = r .range; constant = r .constant })
 
   query-registers : (q : QueryArgument) → status.isValid (registersAsked q (s .registers)) (s .enables) ≡ true
   unfolding registersAsked
@@ -174,10 +166,12 @@ module _ (s : State) (h : validState s ≡ true) where
   act-stays Clear = registers-stay status.allCleared (all-cleared-keeps (s .registers) (s .enables) (sound s h .bits))
   act-stays Start =
       storage-stays (storage.startedOf (s .acquisition .storage))
-      (started-keeps (s .acquisition .storage) (s .installation .capacity) (valueOf (s .settings) send) (sound s h .stored))
+      (started-keeps (s .acquisition .storage) (s .installation .capacity) (valueOf (s .settings) send)
+      (sound s h .stored))
   act-stays Pause =
       storage-stays (storage.pausedOf (s .acquisition .storage))
-      (paused-keeps (s .acquisition .storage) (s .installation .capacity) (valueOf (s .settings) send) (sound s h .stored))
+      (paused-keeps (s .acquisition .storage) (s .installation .capacity) (valueOf (s .settings) send)
+      (sound s h .stored))
   act-stays Empty =
       storage-stays storage.emptiedStorage
       (emptied-keeps (s .installation .capacity) (valueOf (s .settings) send)

@@ -7,3 +7,4 @@ pub mod StaysValid
 pub mod Bytes
 pub mod Meanings
 pub mod OneCommand
+pub mod Band

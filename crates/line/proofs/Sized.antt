@@ -1,8 +1,8 @@
 -- States whose values fit their fields: commands of at most one argument lead from such a state to such a one, and what
 -- they reply has at most as many bytes as a text. Assumes nothing.
-use Prim.Native.Nat.{ℕ, _+_, _/_, _^_, _≤_, _<_}
+use Prim.Native.Nat.{ℕ, _/_, _^_, _≤_, _<_}
 use mathlib.Core.Path.{_≡_, refl}
-use mathlib.Core.Bool.{Bool, true, false, cond, _&&_, _||_}
+use mathlib.Core.Bool.{Bool, true, _||_}
 use mathlib.Core.List.{List}
 use native.Mathlib.Nat.{mod-lt, sub-le}
 use native.Mathlib.Omega.{arith}
@@ -16,11 +16,10 @@ use Rattle.outcome.specs.Code.{codeOf}
 use Rattle.outcome.specs.declared.Refusal.{Refusal}
 use Rattle.outcome.proofs.Every.{refusal-rule}
 use Rattle.settings.specs.Table.{table, startSettings, freq, oflt, nextEntry, valueOf, withValue}
-use Rattle.settings.specs.Limits.{longestAbove}
-use Rattle.settings.specs.Frequency.{inForce, isInternal, crosses, lifts, crossingOf}
+use Rattle.settings.specs.Frequency.{inForce, isInternal, rangeEffectOf}
 use Rattle.settings.specs.declared.Settings.{Settings}
 use Rattle.settings.proofs.Values.{value-either}
-use Rattle.settings.proofs.Stands.{crossing-le}
+use Rattle.settings.proofs.Stands.{effect-le, effect-bits}
 use Rattle.storage.specs.Storage.{isReset, isRunning, isPaused, startedOf, pausedOf, heldAfter, storedOf}
 use Rattle.storage.specs.Storage.{readiedOf, triggerStores, setsRunning, triggeredOf}
 use Rattle.storage.specs.declared.Storage.{Storage}
@@ -42,7 +41,7 @@ use Rattle.command.specs.declared.QueryArgument.the-variants as query
 use Rattle.command.specs.declared.Kind.{Kind}
 use Rattle.command.specs.declared.Kind.the-variants.{Set, Query, Act}
 use Rattle.state.specs.State.{withStorage, withSettings, withAcquisition, withRegisters, withEnables}
-use Rattle.state.specs.State.{detectionNow, crossingFrom, crossedFrom, withErrorBit, samplingOf}
+use Rattle.state.specs.State.{rangeSettled, settled, withErrorBit, samplingOf}
 use Rattle.state.specs.Storing.{sampledBy}
 use Rattle.state.specs.declared.State.{State}
 use Rattle.effect.specs.Effect.{setIn, storageBy, storageAfter, registersAsked, enablesSet, stateAfter}
@@ -201,29 +200,27 @@ start-sized : (i : ℕ) → ltb (valueOf startSettings i) limit ≡ true
 unfolding startSettings table
 start-sized i = all-at (λ y. ltb y limit) 0 refl (startSettings .values) refl i
 
--- the LIA bits that a crossing sets
-crossing-bits : (old new constant : ℕ) → crossingOf old new constant .bits < limit
-unfolding crossingOf
-crossing-bits old new constant = by (crosses old new) (lifts old new && ltb longestAbove constant) where
-  by : (a b : Bool) → cond a 16 0 + cond b 32 0 < limit
-  by true true = omega arith
-  by true false = omega arith
-  by false true = omega arith
-  by false false = omega arith
-
--- a crossing of 200 Hz
-crossed-sized : (old : ℕ) (s : State) → Sized s → Sized (crossedFrom old s)
-unfolding crossedFrom
-crossed-sized old s h =
+-- what the frequency range does
+settled-sized : (s : State) → Sized s → Sized (settled s)
+unfolding settled rangeSettled
+settled-sized s h =
     let constant = valueOf (s .settings) oflt in
-    let shorter = crossing-le old (detectionNow s) constant in
-    let values =
-    value-sized (s .settings) oflt (crossingFrom old s .constant)
-    (omega (arith, ltb-true constant limit (h .values oflt))) (h .values) in
-    settings-sized _ _ (s .enables)
-    (registers-sized s _ h
-    (lia-sized (s .registers) _ (h .registers) (crossing-bits old (detectionNow s) constant)))
-    values (h .enables)
+    let m = rangeSettled (s .settings) (s .acquisition) in
+    let old = s .acquisition .range in
+    let effect = rangeEffectOf old (m .range) constant in
+    let shorter = effect-le old (m .range) constant in
+    let bits = effect-bits old (m .range) constant (λ bits. bits < limit) (omega arith) (omega arith) (omega arith)
+    (omega arith) in
+    record {
+      values =
+          value-sized (s .settings) oflt (effect .constant) (omega (arith, ltb-true constant limit (h .values oflt)))
+          (h .values);
+      external = h .external;
+      held = h .held;
+      capacity = h .capacity;
+      registers = lia-sized (s .registers) (effect .bits) (h .registers) bits;
+      enables = h .enables;
+    }
 
 module _ (t : Storage) (capacity : ℕ) (by : Sampling) (h : t .held < limit) (k : capacity < limit) where
   -- how many points are held after STRT
@@ -286,10 +283,10 @@ act-sized a s h = by a (acted-held t capacity sampling (h .held) (h .capacity) a
       registers-sized _ _ (storage-sized s _ h k)
       (lia-sized (s .registers) _ (h .registers) (trigger-bits t capacity sampling))
 
--- other settings and enables, the detection frequency moved
+-- other settings and enables, and what the frequency range does
 moved-sized : (s : State) (x : Settings) (e : Enables) → Sized s → ((i : ℕ) → ltb (valueOf x i) limit ≡ true) →
-    EnablesSized e → Sized (crossedFrom (detectionNow s) (withSettings x (withEnables e s)))
-moved-sized s x e h k l = crossed-sized (detectionNow s) (withSettings x (withEnables e s)) (settings-sized s x e h k l)
+    EnablesSized e → Sized (settled (withSettings x (withEnables e s)))
+moved-sized s x e h k l = settled-sized (withSettings x (withEnables e s)) (settings-sized s x e h k l)
 
 -- a command of at most one argument
 pub after-sized : (kind : Kind) (s : State) → Brief kind → Sized s → Sized (stateAfter kind s)

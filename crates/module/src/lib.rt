@@ -14,8 +14,9 @@ use state::Installation;
 use state::State;
 use status::Poll;
 
-// A module: its state, and the bytes that wait for their line's end. The queue stands first: behind a state, of 180
-// bytes, four unused ones would precede it, and its 256 bytes would be copied once more for each byte that is taken.
+// A module: its state, and the bytes that wait for their line's end. The queue stands first: behind a state whose
+// length is no multiple of 8, unused bytes would precede it, and its 256 bytes would be copied once more for each byte
+// that is taken.
 pub struct Module {
     pub queue: Queue,
     pub state: State,

@@ -28,11 +28,10 @@ fn decode_setting(part: &[u8], entry: usize) -> Number {
     Number::Value(std::num::wrapping_add_u32(units, bias))
 }
 
-// A phase's number by its word.
-fn decode_phase(part: &[u8]) -> Number {
-    let phase = fields::index_of_phase(part);
-    if phase < fields::PHASE_COUNT {
-        return Number::Value(phase as u32);
+// The index of a word among `count` ones, as a number.
+fn decode_index(index: usize, count: u32) -> Number {
+    if index < count as usize {
+        return Number::Value(index as u32);
     }
     Number::Invalid
 }
@@ -44,7 +43,8 @@ fn decode_value(part: &[u8], field: usize, bytes: &mut [u8]) -> Number {
         FieldKind::Number(most) => terminal::decode_number(part, terminal::DECIMAL, most),
         FieldKind::Setting(entry) => decode_setting(part, entry),
         FieldKind::Word => terminal::decode_word(part, WORD_DIGITS),
-        FieldKind::Phase => decode_phase(part),
+        FieldKind::Phase => decode_index(fields::index_of_phase(part), fields::PHASE_COUNT),
+        FieldKind::Range => decode_index(fields::index_of_range(part), fields::RANGE_COUNT),
         FieldKind::Queue => terminal::decode_bytes(part, bytes),
         FieldKind::Flag => terminal::decode_number(part, terminal::DECIMAL, 1),
     }

@@ -3,11 +3,11 @@
 use terminal::write_byte;
 use terminal::write_bytes;
 
-// The names in the order of `dump`, those of a list by its parts, counted from 0.
-pub const NAMES: [u8; 298] =
+// The names in the order of `dump`, those of a list by its parts, counted from 0. Before `range` come the traces.
+pub const NAMES: [u8; 304] =
     *b"serial port cap phas fmod freq ext rslp harm slvl isrc ilin ofsl ignd icpl sync sens rmod oflt \
     ddef.0 ddef.1 ddef.2 ddef.3 fpop.0 fpop.1 oexp.0 oexp.1 oexp.2 oexp.3 oexp.4 oexp.5 auxv.0 auxv.1 auxv.2 auxv.3 \
-    srat send tstr storage held next pair.0 pair.1 esr lia err ese sre liae erre queue dropping";
+    srat send tstr storage held next pair.0 pair.1 esr lia err ese sre liae erre queue dropping range";
 
 // The serial number.
 pub const SERIAL: usize = 0;
@@ -75,14 +75,23 @@ pub const QUEUE: usize = ERRE + 1;
 // Whether bytes are discarded until their line's end.
 pub const DROPPING: usize = QUEUE + 1;
 
+// The frequency range.
+pub const RANGE: usize = DROPPING + 1;
+
 // How many fields there are.
-pub const COUNT: usize = DROPPING + 1;
+pub const COUNT: usize = RANGE + 1;
 
 // The words for the phases of storage. A phase's number is the index of its word.
 const PHASES: [u8; 25] = *b"reset running paused done";
 
 // How many phases there are.
-pub const PHASE_COUNT: usize = 4;
+pub const PHASE_COUNT: u32 = 4;
+
+// The words for the frequency ranges. A range's number is the index of its word.
+const RANGES: [u8; 11] = *b"upper lower";
+
+// How many ranges there are.
+pub const RANGE_COUNT: u32 = 2;
 
 // The largest byte.
 const LAST_BYTE: u32 = u8::MAX as u32;
@@ -97,6 +106,8 @@ pub enum FieldKind {
     Word,
     // As a phase's word.
     Phase,
+    // As a range's word.
+    Range,
     // As bytes in hex.
     Queue,
     // As 0 or 1.
@@ -117,6 +128,7 @@ pub fn kind_of(field: usize) -> FieldKind {
         SERIAL | CAP | EXT | HELD | NEXT => FieldKind::Number(u32::MAX),
         PORT | ESR..=ERRE => FieldKind::Number(LAST_BYTE),
         STORAGE => FieldKind::Phase,
+        RANGE => FieldKind::Range,
         PAIR_ONE | PAIR_TWO => FieldKind::Word,
         QUEUE => FieldKind::Queue,
         _ => FieldKind::Flag,
@@ -132,6 +144,12 @@ pub fn index_of_field(name: &[u8]) -> usize {
 // The number of a phase by its word, `PHASE_COUNT` where it is none.
 pub fn index_of_phase(word: &[u8]) -> usize {
     let words = PHASES;
+    terminal::index_of_word(&words, word)
+}
+
+// The number of a range by its word, `RANGE_COUNT` where it is none.
+pub fn index_of_range(word: &[u8]) -> usize {
+    let words = RANGES;
     terminal::index_of_word(&words, word)
 }
 
@@ -161,5 +179,14 @@ pub fn write_phase(out: &mut [u8], at: usize, number: u32) -> usize {
         1 => write_bytes(out, at, &words[6..13]),
         2 => write_bytes(out, at, &words[14..20]),
         _ => write_bytes(out, at, &words[21..25]),
+    }
+}
+
+// Writes the word of the range with a number.
+pub fn write_range(out: &mut [u8], at: usize, number: u32) -> usize {
+    let words = RANGES;
+    match number {
+        0 => write_bytes(out, at, &words[0..5]),
+        _ => write_bytes(out, at, &words[6..11]),
     }
 }

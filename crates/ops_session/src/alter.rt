@@ -4,6 +4,7 @@ use lockin::Module;
 use ops_protocol::fields;
 use ops_protocol::fields::FieldKind;
 use queue::Queue;
+use settings::FrequencyRange;
 use state::Acquisition;
 use state::Installation;
 use state::Pair;
@@ -30,6 +31,22 @@ fn phase_of_number(number: u32) -> Phase {
         1 => Phase::Running,
         2 => Phase::Paused,
         _ => Phase::Done,
+    }
+}
+
+// The number of a frequency range: the index of its word in the protocol.
+pub fn range_number(range: FrequencyRange) -> u32 {
+    match range {
+        FrequencyRange::Upper => 0,
+        FrequencyRange::Lower => 1,
+    }
+}
+
+// The frequency range with a number.
+fn range_of_number(number: u32) -> FrequencyRange {
+    match number {
+        0 => FrequencyRange::Upper,
+        _ => FrequencyRange::Lower,
     }
 }
 
@@ -114,11 +131,22 @@ fn with_enables(e: Enables, field: usize, byte: u8) -> Enables {
     t
 }
 
-// Another external frequency or storage.
+// Another frequency range.
+fn with_range(m: Acquisition, value: u32) -> Acquisition {
+    let storage = m.storage;
+    Acquisition {
+        external: m.external,
+        storage,
+        range: range_of_number(value),
+    }
+}
+
+// Another external frequency, frequency range or storage.
 fn with_acquisition(m: Acquisition, field: usize, value: u32) -> Acquisition {
     let mut t = m;
     match field {
         fields::EXT => t.external = value,
+        fields::RANGE => t = with_range(m, value),
         _ => t.storage = with_storage(m.storage, field, value),
     }
     t

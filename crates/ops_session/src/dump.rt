@@ -1,5 +1,6 @@
 // The operation `dump`: the state of a module and its traces as text, `name=value` with spaces between them.
 use crate::alter::phase_number;
+use crate::alter::range_number;
 use lockin::Module;
 use ops_protocol::fields;
 use ops_protocol::fields::FieldKind;
@@ -12,14 +13,17 @@ const WORD_DIGITS: usize = 8;
 // The value of a field that is neither a setting nor `queue`, as a number: a phase by its number.
 fn number_at(m: Module, field: usize) -> u32 {
     let s = m.state;
-    let storage = s.acquisition.storage;
+    let acquisition = s.acquisition;
+    let range = acquisition.range;
+    let storage = acquisition.storage;
     let phase = storage.phase;
     match field {
         fields::SERIAL => s.installation.serial,
         fields::PORT => s.installation.port as u32,
         fields::CAP => s.installation.capacity,
-        fields::EXT => s.acquisition.external,
+        fields::EXT => acquisition.external,
         fields::STORAGE => phase_number(phase),
+        fields::RANGE => range_number(range),
         fields::HELD => storage.held,
         fields::NEXT => storage.next,
         fields::PAIR_ONE => s.latest.one,
@@ -60,17 +64,18 @@ fn write_value(out: &mut [u8], at: usize, m: Module, field: usize) -> usize {
         }
         FieldKind::Word => terminal::write_hex(out, at, value as u64, WORD_DIGITS),
         FieldKind::Phase => fields::write_phase(out, at, value),
+        FieldKind::Range => fields::write_range(out, at, value),
         FieldKind::Queue => write_queue(out, at, m.queue),
     }
 }
 
-// Writes every field behind its name.
+// Writes every field that comes before the traces, behind its name.
 fn write_fields(out: &mut [u8], at: usize, m: Module) -> usize {
     let names = fields::NAMES;
     let mut end = at;
     let mut start = 0;
     let mut field = 0;
-    while field < fields::COUNT {
+    while field < fields::RANGE {
         let rest = &names[start..];
         let n = split::span_of(rest, b' ');
         let name = fields::write_name(out, end, &rest[0..n], field);
@@ -115,6 +120,8 @@ pub fn report_state(m: Module, one: &[u32], two: &[u32]) {
     let mut out = io::buffer();
     let fields = write_fields(&mut out, 0, m);
     let first = write_trace(&mut out, fields, b" t1=", one);
-    let end = write_trace(&mut out, first, b" t2=", two);
+    let second = write_trace(&mut out, first, b" t2=", two);
+    let name = fields::write_name(&mut out, second, b"range", fields::RANGE);
+    let end = write_value(&mut out, name, m, fields::RANGE);
     terminal::end_line(&mut out, end);
 }

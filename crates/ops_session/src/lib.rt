@@ -118,25 +118,8 @@ fn run_operation(
     run_on_slots(m, operation, bytes, &mut one[0..slots], &mut two[0..slots])
 }
 
-// Runs the operation that a text asks for. The bytes that the operation brings are stored at the start of a buffer.
-fn run_text(
-    s: Session,
-    text: &[u8],
-    bytes: &mut [u8],
-    one: &mut [u32],
-    two: &mut [u32],
-) -> Session {
-    let operation = ops_protocol::decode_operation(text, bytes);
-    if let Operation::Start(serial, port, first, second) = operation {
-        return session_of(start::start_module(serial, port, first, second, one, two));
-    }
-    Session {
-        module: run_operation(s.module, s.slots, operation, bytes, one, two),
-        slots: s.slots,
-    }
-}
-
 // Runs the operation of a line of `len` bytes; an empty line does nothing, and one that is too long is no operation.
+// The bytes that the operation brings are stored at the start of a buffer.
 pub fn run_line(
     s: Session,
     line: &[u8],
@@ -152,5 +135,12 @@ pub fn run_line(
         answer::report_invalid();
         return s;
     }
-    run_text(s, &line[0..len], bytes, one, two)
+    let operation = ops_protocol::decode_operation(&line[0..len], bytes);
+    if let Operation::Start(serial, port, first, second) = operation {
+        return session_of(start::start_module(serial, port, first, second, one, two));
+    }
+    Session {
+        module: run_operation(s.module, s.slots, operation, bytes, one, two),
+        slots: s.slots,
+    }
 }

@@ -28,7 +28,8 @@ use Rattle.command.specs.declared.Kind.the-variants.{Set, Query, Act}
 use Rattle.command.specs.declared.Parsed.{Parsed}
 use Rattle.command.specs.declared.Parsed.the-variants as parsed
 use Rattle.status.specs.Status.{withLia, withRaised, mayRaise}
-use Rattle.state.specs.State.{pairOf, samplingOf, withRegisters, withLatest, detectionNow, crossedFrom, withErrorBit}
+use Rattle.state.specs.State.{pairOf, samplingOf, withRegisters, withLatest, rangeSettled, settled}
+use Rattle.state.specs.State.{withErrorBit}
 use Rattle.state.specs.Storing.{triggerOf, tickOf, sampledBy, storedIn}
 use Rattle.state.specs.Valid.{latestValid, validState}
 use Rattle.state.specs.declared.State.{State}
@@ -46,7 +47,8 @@ use Rattle.event.specs.declared.Event.{Event}
 use Rattle.event.specs.declared.Event.the-variants as event
 use Rattle.state.proofs.Sound.{sound}
 use Rattle.invariant.specs.States.{StatePreserved}
-use Rattle.points.specs.Points.{History, Holds, afterTick, afterTrigger, historyAfterEvent, afterAction, afterKind}
+use Rattle.points.specs.Points.{History, Holds, afterTick, afterTrigger, historyAfterEvent, afterAction}
+use Rattle.points.specs.Points.{afterKind}
 use Rattle.points.specs.Points.{afterText, afterTexts}
 use Rattle.points.specs.Points as points
 use Rattle.invariant.proofs.Command.{performed-by}
@@ -60,7 +62,8 @@ pub record Fits (s : State) (one two : List ℕ) : Type 0 where
   pub first : length one ≡ s .installation .capacity
   pub second : length two ≡ s .installation .capacity
 
-pub fits-after : (s t : State) (one two first second : List ℕ) → StatePreserved s t one two first second → Fits s one two →
+pub fits-after : (s t : State) (one two first second : List ℕ) → StatePreserved s t one two first second
+    → Fits s one two →
     Fits t first second
 fits-after s t one two first second k f =
     record {
@@ -75,10 +78,15 @@ stored-kept s h = sound s h .stored
 
 pub some-slot : (s : State) → validState s ≡ true → 1 ≤ s .installation .capacity
 some-slot s h =
-    omega (arith, keeps-next (s .acquisition .storage) (s .installation .capacity) (valueOf (s .settings) send) (stored-kept s h))
+    omega (
+      arith,
+      keeps-next (s .acquisition .storage) (s .installation .capacity) (valueOf (s .settings) send)
+          (stored-kept s h),
+    )
 
 -- nothing is stored since storage was emptied
-pub emptied-holds : (t : State) (one two : List ℕ) → t .acquisition .storage ≡ storage.emptiedStorage → Holds [] t one two
+pub emptied-holds : (t : State) (one two : List ℕ) → t .acquisition .storage ≡ storage.emptiedStorage
+    → Holds [] t one two
 emptied-holds t one two e =
     record {
       held = ap (λ (x : Storage). x .held) e ∙ omega arith;
@@ -92,7 +100,8 @@ module _ (history : History) (s t : State) (one two : List ℕ) (h : Holds histo
     (installation : t .installation ≡ s .installation) where
   -- neither the points held nor the next slot change
   same-holds : Same (t .acquisition .storage) (s .acquisition .storage)
-      → (valueOf (t .settings) send ≡ storage.oneShot → length history ≤ s .installation .capacity) → Holds history t one two
+      → (valueOf (t .settings) send ≡ storage.oneShot → length history ≤ s .installation .capacity)
+      → Holds history t one two
   same-holds same whole =
       record {
         held = same .held ∙ rw installation (h .held);
@@ -102,7 +111,8 @@ module _ (history : History) (s t : State) (one two : List ℕ) (h : Holds histo
         whole = rw installation whole;
       }
 
-  like-holds : t .acquisition .storage ≡ s .acquisition .storage → valueOf (t .settings) send ≡ valueOf (s .settings) send →
+  like-holds : t .acquisition .storage ≡ s .acquisition .storage
+      → valueOf (t .settings) send ≡ valueOf (s .settings) send →
       Holds history t one two
   like-holds same end =
       same-holds (record { held = ap (λ (x : Storage). x .held) same; next = ap (λ (x : Storage). x .next) same })
@@ -115,7 +125,8 @@ module _ (history : History) (s t : State) (one two : List ℕ) (h : Holds histo
     more-holds : storage.isRunning ready ≡ true →
         t .acquisition .storage ≡ storage.storedOf ready (s .installation .capacity) (valueOf (s .settings) send)
         → Holds (history ++ (s .latest ∷ [])) t
-        (set one (s .acquisition .storage .next) (s .latest .one)) (set two (s .acquisition .storage .next) (s .latest .two))
+        (set one (s .acquisition .storage .next) (s .latest .one))
+        (set two (s .acquisition .storage .next) (s .latest .two))
     unfolding storage.storedOf storage.heldAfter
     more-holds running e =
         let c = s .installation .capacity in
@@ -127,8 +138,10 @@ module _ (history : History) (s t : State) (one two : List ℕ) (h : Holds histo
           held = ap (λ (x : Storage). x .held) e ∙ rw (installation, more) (omega arith);
           next = ap (λ (x : Storage). x .next) e ∙ rw (installation, more, same .next, h .next)
               (next-mod (length history) c some);
-          first = rw (installation, h .next) (more-lies (λ p. p .one) history (s .latest) c one some (f .first) (h .first));
-          second = rw (installation, h .next) (more-lies (λ p. p .two) history (s .latest) c two some (f .second) (h .second));
+          first = rw (installation, h .next)
+              (more-lies (λ p. p .one) history (s .latest) c one some (f .first) (h .first));
+          second = rw (installation, h .next)
+              (more-lies (λ p. p .two) history (s .latest) c two some (f .second) (h .second));
           whole = λ shot.
               let free = room ready c (valueOf (s .settings) send) running kept
               (eq-eqb (valueOf (s .settings) send) storage.oneShot (sym end ∙ shot)) in
@@ -137,7 +150,8 @@ module _ (history : History) (s t : State) (one two : List ℕ) (h : Holds histo
 
     -- the latest pair is stored, or not
     sampled-holds : (stores : Bool) → (stores ≡ true → storage.isRunning ready ≡ true)
-        → t .acquisition .storage ≡ storage.storing stores ready (s .installation .capacity) (valueOf (s .settings) send)
+        → t .acquisition .storage ≡ storage.storing stores ready (s .installation .capacity)
+        (valueOf (s .settings) send)
         → Holds (points.pairStored stores s history) t
         (cond stores (set one (s .acquisition .storage .next) (s .latest .one)) one)
         (cond stores (set two (s .acquisition .storage .next) (s .latest .two)) two)
@@ -161,7 +175,8 @@ module _ (history : History) (s t : State) (one two : List ℕ) (h : Holds histo
   unfolding tickOf storage.tickedOf samplingOf storedIn afterTick storage.tickStores
   tick-holds e =
       let by = samplingOf (s .settings) in
-      sampled-holds history s t one two h installation f (s .acquisition .storage) (record { held = refl; next = refl }) end
+      sampled-holds history s t one two h installation f (s .acquisition .storage)
+      (record { held = refl; next = refl }) end
       (stored-kept s (f .valid))
       (storage.tickStores (s .acquisition .storage) by)
       (λ p.
@@ -188,14 +203,14 @@ module _ (history : History) (s : State) (one two : List ℕ) (h : Holds history
   As t = Holds history t one two
 
   measured-holds : (x : ℕ) → As (measuredBy x s)
-  unfolding measuredBy crossedFrom
+  unfolding measuredBy settled rangeSettled
   measured-holds x = by (isInternal (s .settings)) (takesFrequency s x) where
     by : (a b : Bool) →
         As (cond a s
-        (cond b (crossedFrom (detectionNow s) (withExternal x s)) (withRegisters (withLia (s .registers) notTaken) s)))
+        (cond b (settled (withExternal x s)) (withRegisters (withLia (s .registers) notTaken) s)))
     by true b = h
     by false true =
-        like-holds history s (crossedFrom (detectionNow s) (withExternal x s)) one two h refl refl
+        like-holds history s (settled (withExternal x s)) one two h refl refl
         (getD-set-other (s .settings .values) oflt send _ 0 (omega arith))
     by false false = like-holds history s (withRegisters (withLia (s .registers) notTaken) s) one two h refl refl refl
 
@@ -230,7 +245,8 @@ module _ (history : History) (s : State) (one two : List ℕ) (h : Holds history
   marked-holds r = like-holds history s (withErrorBit r s) one two h refl refl refl
 
   -- SEND is set only where storage is reset, which holds none
-  end-set : (v : ℕ) → valueAllowed (s .settings) (s .acquisition) send v ≡ true → length history ≤ s .installation .capacity
+  end-set : (v : ℕ) → valueAllowed (s .settings) (s .acquisition) send v ≡ true
+      → length history ≤ s .installation .capacity
   unfolding valueAllowed
   end-set v p =
       let none = facts (s .acquisition .storage) (s .installation .capacity) (valueOf (s .settings) send)
@@ -258,8 +274,9 @@ module _ (history : History) (s : State) (one two : List ℕ) (h : Holds history
   settings-set (set.Enable r v) k p shot = h .whole shot
   settings-set (set.EnableBit r i v) k p shot = h .whole shot
 
-  set-holds : (a : SetArgument) → StorableSet a → setAllowed (s .settings) (s .acquisition) a ≡ true → As (stateAfter (Set a) s)
-  unfolding stateAfter crossedFrom
+  set-holds : (a : SetArgument) → StorableSet a → setAllowed (s .settings) (s .acquisition) a ≡ true
+      → As (stateAfter (Set a) s)
+  unfolding stateAfter settled rangeSettled
   set-holds a k p =
       same-holds history s (stateAfter (Set a) s) one two h refl (record { held = refl; next = refl })
       (λ shot.
@@ -315,7 +332,8 @@ module _ (room : ℕ) where
       Holds (afterText (parsedOf text) (l .after) history) (n .after) (n .one) (n .two)
   unfolding afterCommand afterOf
   step-holds text l history f h =
-      text-holds history (l .after) (l .one) (l .two) h f (parsedOf text) (parsed-storable text) (room - length (l .out))
+      text-holds history (l .after) (l .one) (l .two) h f (parsedOf text) (parsed-storable text)
+      (room - length (l .out))
       (waits (l .out))
 
   step-fits : (text : List ℕ) (l : Line) → Fits (l .after) (l .one) (l .two) →

@@ -18,7 +18,7 @@ pub limit-after : (s : Settings) (m : Acquisition) (e v : ℕ) → withinLimit (
 unfolding valueAllowed staysWithinLimit
 limit-after s m e v h =
     by (eqb e freq) (eqb e harm) (eqb e fmod)
-    (cond (eqb e oflt) (timeConstantStands (detectionOf s (m .external)) v)
+    (cond (eqb e oflt) (timeConstantStands (m .range) v)
     (cond (eqb e send) (isReset (m .storage)) true))
     refl refl refl
   where

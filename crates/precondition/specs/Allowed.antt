@@ -1,4 +1,4 @@
--- Whether the state allows a command, refusal 3 (§12.3): §6.3, §6.4, §6.5, §7.5 and §8.4.
+-- Whether the state allows a command, refusal 3 (§12.3): §6.3, §6.4, §6.6, §7.5 and §8.4.
 use Prim.Native.Nat.{ℕ}
 use mathlib.Core.Bool.{Bool, true, cond, _&&_}
 use lib.Dec.{eqb}
@@ -18,14 +18,14 @@ use Rattle.state.specs.declared.Acquisition.{Acquisition}
 unfoldable pub staysWithinLimit : Settings → Acquisition → ℕ → ℕ → Bool
 staysWithinLimit s m entry v = withinLimit (detectionOf (withValue s entry v) (m .external))
 
--- §6.4: FREQ in internal mode only; §6.3: FREQ, HARM and FMOD only within the limit; §6.5: OFLT by the time constants
--- that may stand; §7.5: SEND only while storage is reset; any other setting always
+-- §6.4: FREQ in internal mode only; §6.3: FREQ, HARM and FMOD only within the limit; §6.6: OFLT by the time constants
+-- that may stand in the range; §7.5: SEND only while storage is reset; any other setting always
 unfoldable pub valueAllowed : Settings → Acquisition → ℕ → ℕ → Bool
 valueAllowed s m entry v =
     cond (eqb entry freq) (isInternal s && staysWithinLimit s m entry v)
     (cond (eqb entry harm) (staysWithinLimit s m entry v)
     (cond (eqb entry fmod) (staysWithinLimit s m entry v)
-    (cond (eqb entry oflt) (timeConstantStands (detectionOf s (m .external)) v)
+    (cond (eqb entry oflt) (timeConstantStands (m .range) v)
     (cond (eqb entry send) (isReset (m .storage)) true))))
 
 -- §12.3: whether a set is allowed: one value by its entry, pairs and enables always

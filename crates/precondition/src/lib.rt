@@ -32,7 +32,8 @@ fn value_allowed(s: Settings, m: Acquisition, entry: usize, value: u32) -> bool
         return stays_within_limit(s, m, entry, value);
     }
     if entry == settings::OFLT {
-        return settings::time_constant_stands(settings::detection(s, m.external), value);
+        let range = m.range;
+        return settings::time_constant_stands(range, value);
     }
     if entry == settings::SEND {
         return storage::is_reset(m.storage);

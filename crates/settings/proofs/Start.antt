@@ -6,13 +6,13 @@ use lib.Dec.{leb}
 use lib.ListN.{length}
 use Rattle.settings.specs.Table.{entries, table, rowOf, startSettings, valueOf, wholeRow, phase, frequency, level}
 use Rattle.settings.specs.Table.{phas, fmod, freq, harm, slvl, oflt, srat, send, tstr}
-use Rattle.settings.specs.Frequency.{stepBy, inForce, detectionOf, externalStart}
+use Rattle.settings.specs.Frequency.{stepBy, inForce, detectionOf, externalStart, rangeStart}
 use Rattle.settings.specs.Setting.{stepOf}
 use Rattle.settings.specs.Valid.{valueValid, every, valuesValid, validSettings}
 use Rattle.settings.specs.declared.Row.{Row}
 
 -- a fresh module's settings are valid: every start in its range and on its step
-pub start-valid : validSettings startSettings externalStart ≡ true
+pub start-valid : validSettings startSettings externalStart rangeStart ≡ true
 unfolding table rowOf startSettings stepBy inForce detectionOf stepOf valueValid every valuesValid validSettings
 start-valid = refl
 
@@ -38,7 +38,8 @@ rows-ordered = refl
 -- the entries that rules name have the rows of their settings
 pub entries-named :
     map rowOf (phas ∷ fmod ∷ freq ∷ harm ∷ slvl ∷ oflt ∷ srat ∷ send ∷ tstr ∷ [])
-    ≡ phase ∷ wholeRow 0 1 1 ∷ frequency ∷ wholeRow 1 19999 1 ∷ level ∷ wholeRow 0 19 8 ∷ wholeRow 0 14 4 ∷ wholeRow 0 1 1
+    ≡ phase ∷ wholeRow 0 1 1 ∷ frequency ∷ wholeRow 1 19999 1 ∷ level ∷ wholeRow 0 19 8 ∷ wholeRow 0 14 4 ∷ wholeRow 0 1
+    1
     ∷ wholeRow 0 1 0 ∷ []
 unfolding table rowOf
 entries-named = refl

@@ -1,14 +1,18 @@
--- The values once one of them is set, and the detection frequency, which goes by three of them alone. Assumes nothing.
-use Prim.Native.Nat.{ℕ, _+_, _<_}
+-- The values once one of them is set, the detection frequency, which goes by three of them alone, and the harmonic.
+-- Assumes nothing.
+use Prim.Native.Nat.{ℕ, _+_, _≤_, _<_}
+use native.Mathlib.Omega.{arith}
 use mathlib.Core.Path.{_≡_, refl}
-use mathlib.Core.Bool.{Bool, true, false}
-use lib.Dec.{ltb, eqb}
+use mathlib.Core.Bool.{Bool, true, false, and-eq-true-iff}
+use lib.Dec.{leb, ltb, eqb}
 use lib.ListN.{length, List·getD-eq-default}
 use lib.Seq.{getD-set-same, getD-set-other, set-out}
-use borrow.Author.Tests.{ltb-true, ltb-false, lt-ltb, eqb-true, eqb-false}
-use Rattle.settings.specs.Table.{entries, fmod, freq, harm, nextEntry, valueOf, withValue}
+use borrow.Author.Tests.{leb-true, ltb-true, ltb-false, lt-ltb, eqb-true, eqb-false}
+use Rattle.settings.specs.Table.{entries, table, rowOf, fmod, freq, harm, nextEntry, valueOf, withValue}
 use Rattle.settings.specs.Frequency.{inForce, detectionOf}
+use Rattle.settings.specs.Valid.{valueValid, valuesValid}
 use Rattle.settings.specs.declared.Settings.{Settings}
+use Rattle.settings.proofs.Every.{every-at}
 
 -- a test of the value at an entry, once another value was set at one
 pub value-either : (s : Settings) (e v i : ℕ) (test : ℕ → Bool) → (i ≡ e → test v ≡ true) → test (valueOf s i) ≡ true →
@@ -49,3 +53,12 @@ detection-other s e v h m f =
 pub next-is : (entry : ℕ) → entry < entries → nextEntry entry ≡ entry + 1
 unfolding nextEntry
 next-is entry h = rw (lt-ltb entry entries h)
+
+-- a harmonic that is kept is 1 to 19999
+pub harm-kept : (s : Settings) → valuesValid s ≡ true → (1 ≤ valueOf s harm) × (valueOf s harm ≤ 19999)
+unfolding valuesValid valueValid rowOf table
+harm-kept s k =
+    let h = valueOf s harm in
+    let p = every-at (λ e. valueValid e (valueOf s e)) entries k harm (omega arith) in
+    let q = and-eq-true-iff (leb 1 h) _ .0 p in
+    (leb-true 1 h (q .0), leb-true h 19999 (and-eq-true-iff (leb h 19999) _ .0 (q .1) .0))

@@ -1,5 +1,5 @@
 -- The limits that several rules name, each written here alone: the capacity of the traces (§1.2), frequencies (§5.1,
--- §6.1, §6.3) and time constants (§6.5).
+-- §6.1, §6.3, §6.5) and time constants (§6.6).
 use Prim.Native.Nat.{ℕ, _*_}
 use mathlib.Core.Bool.{Bool, _&&_}
 use lib.Dec.{leb}
@@ -36,10 +36,14 @@ frequencyStart = hertz 1000
 abbrev pub detectionLimit : ℕ
 detectionLimit = hertz 102000
 
--- §6.5: the detection frequency above which no long time constant stands, 200 Hz
-abbrev pub longLimit : ℕ
-longLimit = hertz 200
+-- §6.5: the lowest detection frequency inside the band (a term of Req 02), 199.21 Hz
+abbrev pub bandLow : ℕ
+bandLow = 1992100
 
--- §6.5 and §6.6: the longest time constant above it, 30 s
-abbrev pub longestAbove : ℕ
-longestAbove = 13
+-- §6.5: the highest one, 203.12 Hz
+abbrev pub bandHigh : ℕ
+bandHigh = 2031200
+
+-- §6.6 and §6.7: the longest time constant in the upper range, 30 s
+abbrev pub upperConstantMost : ℕ
+upperConstantMost = 13

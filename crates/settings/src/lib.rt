@@ -5,7 +5,8 @@ ghost use Prim.Native.Nat.{_%_};
 ghost use lib.Dec.{leb, eqb};
 ghost use Rattle.settings.specs.Table.{entries, rowOf, startSettings, turnedOf, nextEntry, valueOf, withValue};
 ghost use Rattle.settings.specs.Frequency.{frequencyStep, isInternal, inForce, detectionOf, frequencyInRange};
-ghost use Rattle.settings.specs.Frequency.{withinLimit, above200, timeConstantStands, crossingOf};
+ghost use Rattle.settings.specs.Frequency.{withinLimit, isUpper, rangeAt, rangeStands, timeConstantStands};
+ghost use Rattle.settings.specs.Frequency.{changeBits, rangeEffectOf};
 ghost use Rattle.settings.specs.Setting.{stepWith, turnedAt};
 ghost use Rattle.settings.specs.Parts.{rangeOf, valueTaken};
 ghost use Rattle.settings.specs.Valid.{every, valuesValid, validSettings};
@@ -122,10 +123,10 @@ pub const ENTRIES: usize = TSTR + 1;
 // FMOD with the internal frequency in force.
 pub const INTERNAL: u32 = 1;
 
-// The LIA bit, as a mask, of a crossing of 200 Hz.
-pub const CROSSED: u8 = 1 << 4;
+// The LIA bit, as a mask, of a change of range.
+pub const RANGE_CHANGED: u8 = 1 << 4;
 
-// The LIA bit, as a mask, of a time constant that a crossing made shorter.
+// The LIA bit, as a mask, of a time constant that the upper range made shorter.
 pub const SHORTENED: u8 = 1 << 5;
 
 // From the lowest phase kept to a whole turn.
@@ -161,8 +162,16 @@ pub struct Settings {
     pub values: [u32; ENTRIES],
 }
 
-// What a change of the detection frequency does.
-pub struct Crossing {
+// The frequency range: which time constants there are goes by it.
+pub enum FrequencyRange {
+    // The one above the band: no long time constants.
+    Upper,
+    // The one below the band: all time constants.
+    Lower,
+}
+
+// What the range does to the rest of a state.
+pub struct RangeEffect {
     // The time constant after it.
     pub constant: u32,
     // The LIA bits that it sets, as a mask.
@@ -191,11 +200,14 @@ impl Settings {
     // The highest detection frequency, 102 kHz: a rule of its own beside FREQ's range.
     pub const DETECTION_LIMIT: u32 = 102000 * Settings::HERTZ;
 
-    // The detection frequency above which no long time constant stands, 200 Hz.
-    pub const LONG_LIMIT: u32 = 200 * Settings::HERTZ;
+    // The lowest detection frequency inside the band, 199.21 Hz.
+    pub const BAND_LOW: u32 = 1_992_100;
 
-    // The longest time constant above it.
-    pub const LONGEST_ABOVE: u32 = 13;
+    // The highest detection frequency inside the band, 203.12 Hz.
+    pub const BAND_HIGH: u32 = 2_031_200;
+
+    // The longest time constant in the upper range, 30 s.
+    pub const UPPER_CONSTANT_MOST: u32 = 13;
 
     // Every value at start, with its bias.
     pub const START: [u32; ENTRIES] = [
@@ -338,42 +350,74 @@ pub fn within_limit(detection: u64) -> bool
     detection <= Settings::DETECTION_LIMIT as u64
 }
 
-// Whether a detection frequency is above 200 Hz.
-pub fn above_200(detection: u64) -> bool
-    ensures { λ r. ⌜ r ≡ above200 detection ⌝ }
+// Whether a range is the upper one.
+fn is_upper(range: FrequencyRange) -> bool
+    ensures { λ r. ⌜ r ≡ isUpper range ⌝ }
 {
-    (Settings::LONG_LIMIT as u64) < detection
+    match range {
+        FrequencyRange::Upper => true,
+        FrequencyRange::Lower => false,
+    }
 }
 
-// Whether a time constant may stand at a detection frequency.
-pub fn time_constant_stands(detection: u64, constant: u32) -> bool
-    ensures { λ r. ⌜ r ≡ timeConstantStands detection constant ⌝ }
+// The range at a detection frequency: inside the band it stays the old one.
+pub fn range_at(detection: u64, old: FrequencyRange) -> FrequencyRange
+    ensures { λ r. ⌜ r ≡ rangeAt detection old ⌝ }
 {
-    (constant <= Settings::LONGEST_ABOVE) | !above_200(detection)
+    if (Settings::BAND_HIGH as u64) < detection {
+        return FrequencyRange::Upper;
+    }
+    if detection < Settings::BAND_LOW as u64 {
+        return FrequencyRange::Lower;
+    }
+    old
 }
 
-// What comes of a detection frequency that was old and is new.
-pub fn crossing_of(old: u64, new: u64, constant: u32) -> Crossing
-    ensures { λ r. ⌜ r ≡ crossingOf old new constant ⌝ }
+// Whether a state may have a range at a detection frequency: inside the band either.
+fn range_stands(detection: u64, range: FrequencyRange) -> bool
+    ensures { λ r. ⌜ r ≡ rangeStands detection range ⌝ }
 {
-    let was = above_200(old);
-    let is = above_200(new);
-    let lifts = !was & is;
-    let shortens = lifts & (Settings::LONGEST_ABOVE < constant);
-    if shortens {
-        return Crossing {
-            constant: Settings::LONGEST_ABOVE,
-            bits: CROSSED + SHORTENED,
-        };
+    match range {
+        FrequencyRange::Upper => Settings::BAND_LOW as u64 <= detection,
+        FrequencyRange::Lower => detection <= Settings::BAND_HIGH as u64,
     }
-    let crosses = lifts | (!is & was);
-    if crosses {
-        return Crossing {
-            constant,
-            bits: CROSSED,
-        };
+}
+
+// Whether a time constant may stand in a range.
+pub fn time_constant_stands(range: FrequencyRange, constant: u32) -> bool
+    ensures { λ r. ⌜ r ≡ timeConstantStands range constant ⌝ }
+{
+    (constant <= Settings::UPPER_CONSTANT_MOST) | !is_upper(range)
+}
+
+// The LIA bits of a range that was old and is new, as a mask.
+fn change_bits(old: FrequencyRange, new: FrequencyRange) -> u8
+    ensures { λ r. ⌜ r ≡ changeBits old new ⌝ }
+{
+    match old {
+        FrequencyRange::Upper => match new {
+            FrequencyRange::Upper => 0,
+            FrequencyRange::Lower => RANGE_CHANGED,
+        },
+        FrequencyRange::Lower => match new {
+            FrequencyRange::Upper => RANGE_CHANGED,
+            FrequencyRange::Lower => 0,
+        },
     }
-    Crossing { constant, bits: 0 }
+}
+
+// What comes of a range that was old and is new.
+pub fn range_effect(old: FrequencyRange, new: FrequencyRange, constant: u32) -> RangeEffect
+    ensures { λ r. ⌜ r ≡ rangeEffectOf old new constant ⌝ }
+{
+    let bits = change_bits(old, new);
+    if time_constant_stands(new, constant) {
+        return RangeEffect { constant, bits };
+    }
+    RangeEffect {
+        constant: Settings::UPPER_CONSTANT_MOST,
+        bits: bits + SHORTENED,
+    }
 }
 
 // Whether an external frequency is one that is taken.
@@ -470,11 +514,11 @@ pub fn values_valid(s: Settings) -> bool
     in_ranges(s) & steps
 }
 
-// Whether a state may have the settings and the external frequency: the settings' part of refusal 11.
-pub fn are_valid(s: Settings, external: u32) -> bool
-    ensures { λ r. ⌜ r ≡ validSettings s external ⌝ }
+// Whether a state may have the settings, the external frequency and the range: their part of refusal 11.
+pub fn are_valid(s: Settings, external: u32, range: FrequencyRange) -> bool
+    ensures { λ r. ⌜ r ≡ validSettings s external range ⌝ }
 {
     let frequency = detection(s, external);
-    let stands = time_constant_stands(frequency, value_of(s, OFLT));
+    let stands = range_stands(frequency, range) & time_constant_stands(range, value_of(s, OFLT));
     values_valid(s) & (frequency_in_range(external) & (within_limit(frequency) & stands))
 }

@@ -1,10 +1,10 @@
 -- The state at start (§1.2) and after *RST (§11.2), its parts replaced one at a time, and what a change of the
--- detection frequency (§6.6, §6.7) or a refusal does to it.
+-- detection frequency (§6.5, §6.7, §6.8) or a refusal does to it.
 use Prim.Native.Nat.{ℕ}
 use Rattle.settings.specs.Table.{oflt, srat, send, tstr, startSettings, valueOf, withValue}
-use Rattle.settings.specs.Frequency.{detectionOf, crossingOf, externalStart}
+use Rattle.settings.specs.Frequency.{detectionOf, rangeAt, rangeEffectOf, externalStart, rangeStart}
 use Rattle.settings.specs.declared.Settings.{Settings}
-use Rattle.settings.specs.declared.Crossing.{Crossing}
+use Rattle.settings.specs.declared.FrequencyRange.{FrequencyRange}
 use Rattle.storage.specs.Storage.{emptiedStorage}
 use Rattle.storage.specs.declared.Storage.{Storage}
 use Rattle.storage.specs.declared.Sampling.{Sampling}
@@ -29,9 +29,10 @@ installationOf serial port capacity = record { serial = serial; port = port; cap
 abbrev pub pairOf : ℕ → ℕ → Pair
 pairOf w v = record { one = w; two = v }
 
--- §1.2, §6.1 and §11.2: at start and after *RST: the external frequency is 1000 Hz, and storage is empty
+-- §1.2, §6.1, §6.5 and §11.2: at start and after *RST: the external frequency is 1000 Hz, storage is empty, and the
+-- frequency range is upper
 abbrev pub startAcquisition : Acquisition
-startAcquisition = record { external = externalStart; storage = emptiedStorage }
+startAcquisition = record { external = externalStart; storage = emptiedStorage; range = rangeStart }
 
 -- §1.2: a fresh state: every setting at its start, PON set (§10.1), every enable 0 (§10.3), the latest pair two words 0
 unfoldable pub startState : Installation → State
@@ -49,11 +50,15 @@ startState u =
 
 -- §6.1: the acquisition at another external frequency
 abbrev pub atFrequency : ℕ → Acquisition → Acquisition
-atFrequency f m = record { external = f; storage = m .storage }
+atFrequency f m = record { external = f; storage = m .storage; range = m .range }
 
 -- the acquisition with another storage
 abbrev pub withStorage : Storage → Acquisition → Acquisition
-withStorage t m = record { external = m .external; storage = t }
+withStorage t m = record { external = m .external; storage = t; range = m .range }
+
+-- §6.5: the acquisition with another frequency range
+abbrev pub withRange : FrequencyRange → Acquisition → Acquisition
+withRange r m = record { external = m .external; storage = m .storage; range = r }
 
 -- §1.2: all parts given but for what is fixed at start, which stays
 abbrev pub withParts : Settings → Acquisition → Registers → Enables → Pair → State → State
@@ -90,17 +95,19 @@ withStorageOf p s = withAcquisition (withStorage (p .storage) (s .acquisition)) 
 abbrev pub detectionNow : State → ℕ
 detectionNow s = detectionOf (s .settings) (s .acquisition .external)
 
--- §6.7: the crossing from an old detection frequency to the one of the state
-abbrev pub crossingFrom : ℕ → State → Crossing
-crossingFrom old s = crossingOf old (detectionNow s) (valueOf (s .settings) oflt)
+-- §6.5: the acquisition, under the settings x, once the detection frequency may have changed: in the range at that
+-- frequency
+unfoldable pub rangeSettled : Settings → Acquisition → Acquisition
+rangeSettled x m = withRange (rangeAt (detectionOf x (m .external)) (m .range)) m
 
--- §6.6 and §6.7: the state once its detection frequency has changed from the old one: a crossing of 200 Hz acts on the
--- time constant and sets its LIA bits
-unfoldable pub crossedFrom : ℕ → State → State
-crossedFrom old s =
-    let crossing = crossingFrom old s in
-    withSettings (withValue (s .settings) oflt (crossing .constant))
-    (withRegisters (withLia (s .registers) (crossing .bits)) s)
+-- §6.5, §6.7 and §6.8: the state once the detection frequency may have changed: the range follows it, acts on the time
+-- constant and sets its LIA bits
+unfoldable pub settled : State → State
+settled s =
+    let m = rangeSettled (s .settings) (s .acquisition) in
+    let effect = rangeEffectOf (s .acquisition .range) (m .range) (valueOf (s .settings) oflt) in
+    withSettings (withValue (s .settings) oflt (effect .constant))
+    (withAcquisition m (withRegisters (withLia (s .registers) (effect .bits)) s))
 
 -- ---- refusals and storing
 

@@ -25,10 +25,11 @@ installationValid u = leb (u .serial) serialMost && (leb (u .port) gpib && capac
 unfoldable pub latestValid : Pair → Bool
 latestValid p = isLegal (p .one) && isLegal (p .two)
 
--- §12.11: settings with the external frequency, storage with its capacity, registers with their enables
+-- §12.11: settings with the external frequency and the frequency range, storage with its capacity, registers with their
+-- enables
 unfoldable pub partsValid : State → Bool
 partsValid s =
-    validSettings (s .settings) (s .acquisition .external)
+    validSettings (s .settings) (s .acquisition .external) (s .acquisition .range)
     && (storage.isValid (s .acquisition .storage) (s .installation .capacity) (valueOf (s .settings) send)
     && status.isValid (s .registers) (s .enables))
 

@@ -1,11 +1,12 @@
 // The state of a module but for its queue: settings, frequencies, storage, status, the latest pair, and what is fixed
 // at start.
 ghost use mathlib.Core.Path.{_≡_};
-ghost use Rattle.state.specs.State.{startAcquisition, startState, detectionNow, crossedFrom, withErrorBit};
+ghost use Rattle.state.specs.State.{startAcquisition, startState, rangeSettled, settled, withErrorBit};
 ghost use Rattle.state.specs.State.{withStorageOf, samplingOf};
 ghost use Rattle.state.specs.Storing.{triggerOf, tickOf, sampledBy, storedIn};
 ghost use Rattle.state.specs.Valid.{installationValid, latestValid, partsValid, validState};
 use outcome::Refusal;
+use settings::FrequencyRange;
 use settings::Settings;
 use status::Enables;
 use status::Registers;
@@ -44,9 +45,12 @@ pub struct Acquisition {
     pub external: u32,
     // Which points the traces hold, and whether more are stored.
     pub storage: Storage,
+    // The frequency range, by the detection frequency and the range before.
+    pub range: FrequencyRange,
 }
 
-// The state. Only `State::start` and `Acquisition::start` list their fields: every other function changes a copy.
+// The state. Only `State::start`, `Acquisition::start` and `range_settled` list their fields: every other function
+// changes a copy.
 pub struct State {
     // The value of each setting.
     pub settings: Settings,
@@ -70,6 +74,7 @@ impl Acquisition {
         Acquisition {
             external: Settings::FREQUENCY_START,
             storage: storage::emptied(),
+            range: FrequencyRange::Upper,
         }
     }
 }
@@ -90,24 +95,34 @@ impl State {
     }
 }
 
-// The detection frequency.
-pub fn detection_now(s: State) -> u64
-    ensures { λ r. ⌜ r ≡ detectionNow s ⌝ }
+// The acquisition once its detection frequency may have changed: the range is the one at that frequency.
+pub fn range_settled(s: Settings, m: Acquisition) -> Acquisition
+    ensures { λ r. ⌜ r ≡ rangeSettled s m ⌝ }
 {
-    let acquisition = s.acquisition;
-    settings::detection(s.settings, acquisition.external)
+    let old = m.range;
+    let storage = m.storage;
+    let range = settings::range_at(settings::detection(s, m.external), old);
+    Acquisition {
+        external: m.external,
+        storage,
+        range,
+    }
 }
 
-// The state once its detection frequency has changed from `old`: a crossing of 200 Hz acts on the time constant and
-// on LIA.
-pub fn crossed(s: State, old: u64) -> State
-    ensures { λ r. ⌜ r ≡ crossedFrom old s ⌝ }
+// The state once its detection frequency may have changed: the range acts on the time constant and on LIA.
+pub fn settled(s: State) -> State
+    ensures { λ r. ⌜ r ≡ settled s ⌝ }
 {
+    let before = s.acquisition;
+    let acquisition = range_settled(s.settings, before);
+    let old = before.range;
+    let new = acquisition.range;
     let constant = settings::value_of(s.settings, settings::OFLT);
-    let crossing = settings::crossing_of(old, detection_now(s), constant);
+    let effect = settings::range_effect(old, new, constant);
     let mut t = s;
-    t.settings = settings::with_value(s.settings, settings::OFLT, crossing.constant);
-    t.registers = status::with_lia(s.registers, crossing.bits);
+    t.settings = settings::with_value(s.settings, settings::OFLT, effect.constant);
+    t.acquisition = acquisition;
+    t.registers = status::with_lia(s.registers, effect.bits);
     t
 }
 
@@ -216,7 +231,9 @@ fn parts_valid(s: State) -> bool
 {
     let end = settings::value_of(s.settings, settings::SEND);
     let stored = storage::is_valid(s.acquisition.storage, s.installation.capacity, end);
-    settings::are_valid(s.settings, s.acquisition.external)
+    let acquisition = s.acquisition;
+    let range = acquisition.range;
+    settings::are_valid(s.settings, acquisition.external, range)
         & (stored & status::bits_valid(s.registers, s.enables))
 }
 

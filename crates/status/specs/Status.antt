@@ -51,7 +51,8 @@ allCleared = record { standard = 0; lia = 0; errors = 0 }
 abbrev pub withStandard : Registers → ℕ → Registers
 withStandard r bits = record { standard = bitOr (r .standard) bits; lia = r .lia; errors = r .errors }
 
--- §6.6, §6.7, §7.8 and §9.3: the event registers with LIA bits set, as by a crossing, a trigger or a measured frequency
+-- §6.7, §6.8, §7.8 and §9.3: the event registers with LIA bits set, as by the frequency range, a trigger or a measured
+-- frequency
 abbrev pub withLia : Registers → ℕ → Registers
 withLia r bits = record { standard = r .standard; lia = bitOr (r .lia) bits; errors = r .errors }
 
@@ -116,7 +117,7 @@ statusByte r e p = otherBits r e p + flag (meets (otherBits r e p) (e .service))
 abbrev pub standardUnused : ℕ
 standardUnused = 2 ^ 1 + 2 ^ 3
 
--- §12.11: the LIA bit that nothing sets: an event raises 0 to 3, a crossing of 200 Hz sets 4 and 5, a trigger 6
+-- §12.11: the LIA bit that nothing sets: an event raises 0 to 3, the frequency range sets 4 and 5, a trigger 6
 abbrev pub liaUnused : ℕ
 liaUnused = 2 ^ 7
 

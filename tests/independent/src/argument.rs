@@ -29,18 +29,22 @@ pub struct Argument {
 }
 
 impl Argument {
+    /// A whole number from `low` to `high`.
     pub const fn whole(low: i64, high: i64) -> Argument {
         Argument { low, high, decimals: 0, rule: Rule::Whole }
     }
 
+    /// A value that is rounded to a step; ends and step are in units of ten to the power minus `decimals`.
     pub const fn stepped(low: i64, high: i64, decimals: usize, step: i64) -> Argument {
         Argument { low, high, decimals, rule: Rule::Step(step) }
     }
 
+    /// PHAS's value: from -360.00 to 729.99 degrees.
     pub const fn phase() -> Argument {
         Argument { low: -360 * DEGREE, high: 729 * DEGREE + 99, decimals: 2, rule: Rule::Phase }
     }
 
+    /// FREQ's value: from 0.001 Hz to 102 kHz.
     pub const fn frequency() -> Argument {
         Argument { low: frequency::LEAST, high: frequency::LIMIT, decimals: frequency::DECIMALS, rule: Rule::Frequency }
     }
@@ -85,10 +89,12 @@ fn within_half_turn(mut phase: i64) -> i64 {
 mod tests {
     use super::*;
 
+    /// The value taken for a number text.
     fn taken(argument: Argument, text: &str) -> Option<i64> {
         argument.take(&Number::read(text.as_bytes()).unwrap())
     }
 
+    /// Texts at the ends of the range and of the turn, with the phase taken.
     #[test]
     fn phases() {
         for (text, expected) in [
@@ -110,6 +116,7 @@ mod tests {
         }
     }
 
+    /// Texts at the ends of the range and beside a change of step, with the frequency taken.
     #[test]
     fn frequencies() {
         for (text, expected) in [
@@ -131,6 +138,7 @@ mod tests {
         }
     }
 
+    /// Harmonics in range, out of it and not whole.
     #[test]
     fn whole_numbers() {
         let harmonic = Argument::whole(1, 19_999);

@@ -52,6 +52,7 @@ mod tests {
         assert!(stops > 20, "{stops} stops");
     }
 
+    /// A refusal shows in *ESR alone, and a last line without its end has no reply.
     #[test]
     fn worked_example() {
         let input = b"*IDN?\nPHAS 541\nPHAS?\nFREQ 102000.1\n*ESR?\nSLVL 1.001;SLVL?\nPHAS?";

@@ -61,6 +61,7 @@ pub static FORMS: LazyLock<Vec<Form>> = LazyLock::new(|| {
     forms
 });
 
+/// The form of a name, as a query or not, with these arguments.
 fn form(name: &'static str, is_query: bool, arguments: &[Argument]) -> Form {
     Form { name, is_query, arguments: arguments.to_vec() }
 }
@@ -91,8 +92,11 @@ impl fmt::Display for Command {
 /// What stands at one place of a line.
 #[derive(Clone, Debug, PartialEq, Eq)]
 pub enum Reading {
+    /// No byte but spaces and CR.
     Empty,
+    /// A text that is refused by 1 or 2.
     Refused(Refusal),
+    /// A well-formed command with its values in range.
     Command(Command),
 }
 
@@ -103,6 +107,7 @@ pub fn read_line(line: &[u8]) -> Vec<Reading> {
     text.split(|&byte| byte == b';').map(read_place).collect()
 }
 
+/// Reads one place, in capitals and without spaces.
 fn read_place(text: &[u8]) -> Reading {
     if text.is_empty() {
         return Reading::Empty;
@@ -157,6 +162,7 @@ mod tests {
         places.join(";")
     }
 
+    /// Lines with the commands and values read from them.
     #[test]
     fn worked_examples() {
         for (line, expected) in [
@@ -187,6 +193,7 @@ mod tests {
         }
     }
 
+    /// Empty places count, and each place is read by itself.
     #[test]
     fn places() {
         assert_eq!(read(b""), "empty");

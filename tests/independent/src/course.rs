@@ -11,8 +11,11 @@ use crate::script::No;
 /// The events before each line up to the first that something is refused of, and that refusal.
 #[derive(Clone, Debug)]
 pub struct Course {
+    /// The module before all events and lines.
     pub start: Module,
+    /// One list of events for each line.
     pub events: Vec<Vec<Operation>>,
+    /// The first refusal; nothing where no command is refused.
     pub refused: Option<No>,
 }
 

@@ -8,6 +8,7 @@ pub struct Decimal {
 }
 
 impl Decimal {
+    /// The value of a mantissa with so many decimal places.
     pub fn new(mantissa: i128, places: usize) -> Decimal {
         Decimal { mantissa, places }
     }
@@ -57,6 +58,7 @@ impl Decimal {
 mod tests {
     use super::*;
 
+    /// Values, also with places and offsets added, as plain and as scientific texts.
     #[test]
     fn texts() {
         assert_eq!(Decimal::new(-3_600_001, 4).plain(), "-360.0001");

@@ -1,4 +1,4 @@
-//! Frequencies in units of 0.1 mHz: the steps of FREQ, the 102 kHz limit and the 200 Hz crossing.
+//! Frequencies in units of 0.1 mHz: the steps of FREQ, the 102 kHz limit, and the band that moves the range.
 
 use crate::number::Number;
 
@@ -14,14 +14,15 @@ pub const LEAST: i64 = 10;
 /// The largest reference frequency, and the limit of the detection frequency: 102 kHz.
 pub const LIMIT: i64 = 102_000 * HERTZ;
 
-/// Up to here, 200 Hz included, the long time constants are allowed.
-pub const SLOW_LIMIT: i64 = 200 * HERTZ;
+/// The ends of the band, 199.21 and 203.12 Hz; both are inside.
+pub const BAND_LOW: i64 = 1_992_100;
+pub const BAND_HIGH: i64 = 2_031_200;
 
-/// The least time constant that is not allowed above 200 Hz, and the one that takes its place.
-pub const FIRST_LONG_TIME_CONSTANT: i64 = 14;
-pub const LONGEST_FAST_TIME_CONSTANT: i64 = 13;
+/// The longest time constant of the upper range, and the next one, which it does not take.
+pub const UPPER_MOST_TIME_CONSTANT: i64 = 13;
+pub const FIRST_LONG_TIME_CONSTANT: i64 = UPPER_MOST_TIME_CONSTANT + 1;
 
-/// LIA bits: 200 Hz was crossed, the time constant was changed.
+/// LIA bits: the range changed, the time constant was changed.
 pub const LIA_RANGE_BIT: u8 = 1 << 4;
 pub const LIA_TIME_CONSTANT_BIT: u8 = 1 << 5;
 
@@ -44,9 +45,13 @@ pub fn on_step(units: i64) -> bool {
 /// What decides the detection frequency.
 #[derive(Clone, Copy, Debug, PartialEq, Eq)]
 pub struct Reference {
+    /// Whether the internal frequency is in force, FMOD 1, or else the external one.
     pub is_internal: bool,
+    /// The internal frequency, which FREQ sets.
     pub internal: i64,
+    /// The external frequency, as it was last measured.
     pub external: i64,
+    /// HARM's value.
     pub harmonic: i64,
 }
 
@@ -65,37 +70,79 @@ impl Reference {
         self.harmonic * self.in_force()
     }
 
+    /// Whether the detection frequency is at most 102 kHz.
     pub fn is_within_limit(&self) -> bool {
         self.detection() <= LIMIT
     }
 }
 
-/// Whether a time constant is allowed at a detection frequency.
-pub fn allows_time_constant(detection: i64, time_constant: i64) -> bool {
-    detection <= SLOW_LIMIT || time_constant < FIRST_LONG_TIME_CONSTANT
+/// The range that a state is in.
+#[derive(Clone, Copy, Debug, PartialEq, Eq, Hash)]
+pub enum Range {
+    /// The long time constants are refused.
+    Upper,
+    /// Every time constant is taken.
+    Lower,
 }
 
-/// What a changed detection frequency does.
+impl Range {
+    /// Both ranges.
+    pub const ALL: [Range; 2] = [Range::Upper, Range::Lower];
+
+    /// The range that this one becomes at a detection frequency: inside the band it stays.
+    pub fn at(self, detection: i64) -> Range {
+        if detection > BAND_HIGH {
+            Range::Upper
+        } else if detection < BAND_LOW {
+            Range::Lower
+        } else {
+            self
+        }
+    }
+
+    /// Whether a state may be in this range at a detection frequency.
+    pub fn stands_at(self, detection: i64) -> bool {
+        match self {
+            Range::Upper => detection >= BAND_LOW,
+            Range::Lower => detection <= BAND_HIGH,
+        }
+    }
+
+    /// Whether a time constant is allowed in this range.
+    pub fn allows(self, time_constant: i64) -> bool {
+        self == Range::Lower || time_constant <= UPPER_MOST_TIME_CONSTANT
+    }
+}
+
+/// The frequencies next to the band's ends with a harmonic: the last below, the first and last inside, the first above.
+pub fn beside_band(harmonic: i64) -> [i64; 4] {
+    let [below, inside] = [BAND_LOW - 1, BAND_HIGH].map(|detection| detection / harmonic);
+    [below, below + 1, inside, inside + 1]
+}
+
+/// What another detection frequency makes of a state.
 #[derive(Clone, Copy, Debug, PartialEq, Eq)]
-pub struct Crossing {
+pub struct Settled {
+    /// The range at the detection frequency.
+    pub range: Range,
+    /// The time constant, shortened where the range does not take it.
     pub time_constant: i64,
+    /// The LIA bits that are set with this.
     pub lia_bits: u8,
 }
 
-/// The time constant and the LIA bits set where the detection frequency goes from `old` to `new`.
-pub fn cross(old: i64, new: i64, time_constant: i64) -> Crossing {
-    let mut crossing = Crossing { time_constant, lia_bits: 0 };
-    let was_above = old > SLOW_LIMIT;
-    let is_above = new > SLOW_LIMIT;
-    if was_above != is_above {
-        crossing.lia_bits |= LIA_RANGE_BIT;
+/// The range, the time constant and the LIA bits set at a detection frequency, from the range before it.
+pub fn settle(before: Range, detection: i64, time_constant: i64) -> Settled {
+    let range = before.at(detection);
+    let mut settled = Settled { range, time_constant, lia_bits: 0 };
+    if range != before {
+        settled.lia_bits |= LIA_RANGE_BIT;
     }
-    let lifted = !was_above && is_above;
-    if lifted && time_constant >= FIRST_LONG_TIME_CONSTANT {
-        crossing.time_constant = LONGEST_FAST_TIME_CONSTANT;
-        crossing.lia_bits |= LIA_TIME_CONSTANT_BIT;
+    if !range.allows(time_constant) {
+        settled.time_constant = UPPER_MOST_TIME_CONSTANT;
+        settled.lia_bits |= LIA_TIME_CONSTANT_BIT;
     }
-    crossing
+    settled
 }
 
 #[cfg(test)]
@@ -131,20 +178,60 @@ mod tests {
         assert!(!Reference { harmonic: 103, ..start }.is_within_limit());
     }
 
+    /// The band's ends change no range and let both stand; the next unit outside does not.
     #[test]
-    fn exactly_200_hz_is_below() {
-        assert!(allows_time_constant(SLOW_LIMIT, 14));
-        assert!(!allows_time_constant(SLOW_LIMIT + 1, 14));
-        assert!(allows_time_constant(SLOW_LIMIT + 1, 13));
-        for (old, new, before, after, bits) in [
-            (SLOW_LIMIT, SLOW_LIMIT + 1, 14, 13, 48),
-            (SLOW_LIMIT, SLOW_LIMIT + 1, 13, 13, 16),
-            (SLOW_LIMIT + 1, SLOW_LIMIT, 13, 13, 16),
-            (SLOW_LIMIT - 1, SLOW_LIMIT, 19, 19, 0),
-            (SLOW_LIMIT + 1, SLOW_LIMIT + 2, 0, 0, 0),
+    fn both_ends_of_the_band_are_inside() {
+        assert_eq!((BAND_LOW, BAND_HIGH), (19_921 * HERTZ / 100, 20_312 * HERTZ / 100));
+        for range in Range::ALL {
+            for inside in [BAND_LOW, BAND_LOW + 1, 200 * HERTZ, BAND_HIGH - 1, BAND_HIGH] {
+                assert_eq!((range.at(inside), range.stands_at(inside)), (range, true), "{inside}");
+            }
+            for below in [LEAST, BAND_LOW - 1] {
+                assert_eq!((range.at(below), range.stands_at(below)), (Range::Lower, range == Range::Lower));
+            }
+            for above in [BAND_HIGH + 1, LIMIT] {
+                assert_eq!((range.at(above), range.stands_at(above)), (Range::Upper, range == Range::Upper));
+            }
+        }
+    }
+
+    /// With every harmonic there are frequencies below, inside and above the band.
+    #[test]
+    fn frequencies_beside_the_band() {
+        assert_eq!(beside_band(1), [1_992_099, 1_992_100, 2_031_200, 2_031_201]);
+        assert_eq!(beside_band(2), [996_049, 996_050, 1_015_600, 1_015_601]);
+        for harmonic in 1..=19_999 {
+            let [below, first, last, above] = beside_band(harmonic).map(|frequency| frequency * harmonic);
+            assert!(below < BAND_LOW && BAND_LOW <= first && last <= BAND_HIGH && BAND_HIGH < above, "{harmonic}");
+            assert!(first <= last && above <= LIMIT, "{harmonic}");
+        }
+    }
+
+    /// The lower range takes them all.
+    #[test]
+    fn the_upper_range_takes_time_constants_up_to_13() {
+        assert!(Range::Upper.allows(13) && !Range::Upper.allows(14) && !Range::Upper.allows(19));
+        assert!(Range::Lower.allows(13) && Range::Lower.allows(14) && Range::Lower.allows(19));
+    }
+
+    /// From each range to below, inside and above the band.
+    #[test]
+    fn bit_4_marks_a_change_of_range_and_bit_5_a_shortened_time_constant() {
+        use Range::{Lower, Upper};
+        for (before, detection, constant, range, after, bits) in [
+            (Lower, BAND_HIGH + 1, 14, Upper, 13, 48),
+            (Lower, BAND_HIGH + 1, 19, Upper, 13, 48),
+            (Lower, BAND_HIGH + 1, 13, Upper, 13, 16),
+            (Lower, BAND_HIGH, 19, Lower, 19, 0),
+            (Lower, BAND_LOW, 19, Lower, 19, 0),
+            (Lower, BAND_LOW - 1, 19, Lower, 19, 0),
+            (Upper, BAND_LOW - 1, 13, Lower, 13, 16),
+            (Upper, BAND_LOW, 13, Upper, 13, 0),
+            (Upper, BAND_HIGH, 0, Upper, 0, 0),
+            (Upper, BAND_HIGH + 1, 0, Upper, 0, 0),
         ] {
-            let expected = Crossing { time_constant: after, lia_bits: bits };
-            assert_eq!(cross(old, new, before), expected);
+            let expected = Settled { range, time_constant: after, lia_bits: bits };
+            assert_eq!(settle(before, detection, constant), expected, "{before:?} {detection} {constant}");
         }
     }
 }

@@ -25,6 +25,7 @@ pub fn decode(text: &str) -> Option<Vec<u8>> {
         .collect()
 }
 
+/// The value of a hex digit in small letters; nothing for any other byte.
 fn digit(byte: u8) -> Option<u8> {
     match byte {
         b'0'..=b'9' => Some(byte - b'0'),
@@ -43,6 +44,7 @@ pub fn printable(bytes: &[u8]) -> String {
 mod tests {
     use super::*;
 
+    /// Every byte comes back from its hex, and texts that are no hex give nothing.
     #[test]
     fn there_and_back() {
         let all: Vec<u8> = (0..=255).collect();

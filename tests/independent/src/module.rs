@@ -29,12 +29,17 @@ pub const MOST_CAPACITY: usize = 16_383;
 /// A module and the traces lent to it.
 #[derive(Clone, Debug, PartialEq, Eq)]
 pub struct Module {
+    /// The serial number in the reply to *IDN.
     pub serial: u32,
     pub port: Port,
     pub settings: Settings,
+    /// How many points are stored, and whether more are.
     pub storage: Storage,
+    /// The words of both traces, slot by slot.
     pub traces: [Vec<Point>; 2],
+    /// The latest pair: the points that the next trigger or tick stores.
     pub latest: [Point; 2],
+    /// The event registers and all enables.
     pub registers: Registers,
     pub input: Input,
 }
@@ -57,6 +62,7 @@ impl Module {
         Module::fresh(0, Port::Gpib, 1)
     }
 
+    /// A module right after its start, all words of its traces 0.
     fn fresh(serial: u32, port: Port, capacity: usize) -> Module {
         let zero = Point { word: 0 };
         Module {
@@ -71,10 +77,12 @@ impl Module {
         }
     }
 
+    /// Whether storage ends when it is full, SEND 0, and is no loop.
     pub fn is_one_shot(&self) -> bool {
         self.settings.entries[SEND] == 0
     }
 
+    /// The phase of storage.
     pub fn phase(&self) -> Phase {
         self.storage.phase(self.is_one_shot())
     }
@@ -84,20 +92,21 @@ impl Module {
         self.registers.standard.events |= refusal.event_bits();
     }
 
-    /// Takes other settings over, with what a crossing of 200 Hz does.
+    /// Takes other settings over, with what their detection frequency makes of the range.
     fn adopt(&mut self, settings: Settings) {
-        let old = self.settings.reference().detection();
-        let new = settings.reference().detection();
-        let crossing = frequency::cross(old, new, settings.entries[OFLT]);
+        let detection = settings.reference().detection();
+        let settled = frequency::settle(self.settings.range, detection, settings.entries[OFLT]);
         self.settings = settings;
-        self.settings.entries[OFLT] = crossing.time_constant;
-        self.registers.lia.events |= crossing.lia_bits;
+        self.settings.range = settled.range;
+        self.settings.entries[OFLT] = settled.time_constant;
+        self.registers.lia.events |= settled.lia_bits;
     }
 }
 
 #[cfg(test)]
 mod tests {
     use super::*;
+    use crate::frequency::Range;
 
     #[test]
     fn starts_are_refused_by_10_before_9() {
@@ -118,5 +127,6 @@ mod tests {
         assert_eq!((module.serial, module.port, module.storage.capacity()), (0, Port::Gpib, 1));
         assert_eq!(module.registers.standard.events, 128);
         assert_eq!(module.phase(), Phase::Reset);
+        assert_eq!((module.settings.range, module.registers.lia.events), (Range::Upper, 0));
     }
 }

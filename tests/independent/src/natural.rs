@@ -15,6 +15,7 @@ impl Natural {
         Natural { digits: digits[leading..].to_vec() }
     }
 
+    /// Whether it is 0.
     pub fn is_zero(&self) -> bool {
         self.digits.is_empty()
     }

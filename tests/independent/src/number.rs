@@ -50,6 +50,7 @@ impl Number {
         Number::new(units < 0, magnitude.times_power_of_ten(PLACES - decimals))
     }
 
+    /// The value of a sign and a magnitude; zero loses its minus.
     fn new(negative: bool, magnitude: Natural) -> Number {
         Number { negative: negative && !magnitude.is_zero(), magnitude }
     }
@@ -74,6 +75,7 @@ impl Number {
         self.signed(steps * step)
     }
 
+    /// A magnitude with this number's sign.
     fn signed(&self, magnitude: i64) -> Option<i64> {
         Some(if self.negative { -magnitude } else { magnitude })
     }
@@ -125,6 +127,7 @@ fn read_exponent(text: &[u8]) -> Option<i64> {
 mod tests {
     use super::*;
 
+    /// The value of a text that is a number.
     fn value(text: &str) -> Number {
         Number::read(text.as_bytes()).unwrap_or_else(|| panic!("{text:?} is a number"))
     }
@@ -243,6 +246,7 @@ mod tests {
         }
     }
 
+    /// However they are spelled; none for a fraction or a value too large.
     #[test]
     fn whole_values() {
         assert_eq!(value("50E-1").whole(), Some(5));

@@ -22,6 +22,7 @@
 //! | T | 2, and at least 1 |
 //! | VALUE | what the field that NAME names holds; of a setting with a minus too |
 
+pub mod band;
 pub mod compare;
 pub mod dump;
 pub mod field;
@@ -43,21 +44,36 @@ pub const MOST_OPERATION_BYTES: usize = 131_072;
 pub const MOST_LENGTH: usize = 16_384;
 pub const MOST_ROOM: usize = 131_072;
 
+/// A start, a call of the module, a change of its state or traces, a view of them, or a check.
 #[derive(Clone, Debug, PartialEq, Eq)]
 pub enum Operation {
+    /// A fresh module over two traces of these lengths.
     Start { serial: u32, port: u32, lengths: [usize; 2] },
+    /// A line handed over whole, with room for its replies.
     Line { line: Vec<u8>, room: usize },
+    /// One byte that comes in, with an end mark or without.
     Byte { byte: u8, end_mark: bool, room: usize },
+    /// Bytes in one call, an end mark on the last of them or none.
     Run { bytes: Vec<u8>, end_mark: bool, room: usize },
+    /// The words of a new latest pair.
     Pair([u32; 2]),
+    /// A tick of the sample rate.
     Tick,
+    /// A trigger from outside.
     Trigger,
+    /// A measured external frequency in units of 0.1 mHz.
     Measured(u32),
+    /// LIA and ERR bits that are raised.
     Raise { lia: u8, err: u8 },
+    /// A word that somebody else writes into a slot of trace 0 or 1.
     Poke { trace: usize, slot: usize, word: u32 },
+    /// Another value in a field of the state that the next call is handed.
     Alter { field: Field, value: Value },
+    /// A view of the state and both traces.
     Dump,
+    /// A serial poll of the status byte.
     Poll,
+    /// The check of a script for modules of a capacity.
     Check { capacity: usize, script: Vec<u8> },
 }
 
@@ -141,6 +157,7 @@ fn number(text: &str, most: u32) -> Option<u32> {
     text.parse().ok().filter(|&value| value <= most)
 }
 
+/// A length or a room of at most `most`.
 fn length(text: &str, most: usize) -> Option<usize> {
     number(text, most as u32).map(|value| value as usize)
 }
@@ -156,6 +173,7 @@ fn digits(text: &str, count: usize) -> Option<u32> {
     Some(value.into_iter().fold(0, |value, byte| value << 8 | u32::from(byte)))
 }
 
+/// The bytes of hex; none for `-`.
 fn bytes(text: &str) -> Option<Vec<u8>> {
     match text {
         "-" => Some(Vec::new()),
@@ -226,6 +244,9 @@ mod tests {
         "alter HARM 1",
         "alter harm 1.0",
         "alter harm 4294967296",
+        "alter range",
+        "alter range 1",
+        "alter range LOWER",
         "check 4",
         "check x 2a",
         "?",
@@ -252,6 +273,7 @@ mod tests {
             "alter oexp.2 -10500",
             "alter pair.0 00ec8000",
             "alter storage paused",
+            "alter range lower",
             "alter queue 0d0a",
             "dump",
             "poll",

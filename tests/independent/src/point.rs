@@ -22,15 +22,18 @@ impl Point {
         Point { word: u32::from_le_bytes([low, high, e, 0]) }
     }
 
+    /// The signed number in its two low bytes.
     pub fn m(self) -> i16 {
         let [low, high, _, _] = self.word.to_le_bytes();
         i16::from_le_bytes([low, high])
     }
 
+    /// The exponent, in the byte above these.
     pub fn e(self) -> u8 {
         self.word.to_le_bytes()[2]
     }
 
+    /// Whether its top byte is 0 and its exponent at most 236.
     pub fn is_legal(self) -> bool {
         self.word.to_le_bytes()[3] == 0 && self.e() <= MOST_EXPONENT
     }
@@ -60,6 +63,7 @@ impl Point {
 mod tests {
     use super::*;
 
+    /// Points with the bytes that TRCB sends of them.
     #[test]
     fn worked_examples() {
         for (m, e, expected) in [

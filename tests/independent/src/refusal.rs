@@ -49,11 +49,13 @@ const ALL: [Refusal; 11] = [
 ];
 
 impl Refusal {
+    /// The refusal of a number from 1 to 11; nothing for another.
     #[cfg(test)]
     pub fn from_number(number: usize) -> Option<Refusal> {
         ALL.get(number.checked_sub(1)?).copied()
     }
 
+    /// Its number, from 1 to 11.
     pub fn number(self) -> usize {
         self as usize + 1
     }
@@ -79,6 +81,7 @@ impl Refusal {
 mod tests {
     use super::*;
 
+    /// Each refusal has its number and its standard event bits.
     #[test]
     fn numbers_and_bits() {
         let bits: Vec<u8> = (1..=11)

@@ -1,7 +1,8 @@
 //! The script check: whether a script is refused in no course of events, and if not, where first.
 
-mod counts;
 mod courses;
+mod externals;
+mod numbers;
 pub mod program;
 
 use crate::command::{self, Command, Reading, MOST_LINE_BYTES};
@@ -74,6 +75,7 @@ pub struct Walk {
 }
 
 impl Walk {
+    /// A check at the beginning of a script.
     pub fn new(capacity: usize) -> Walk {
         Walk { capacity, courses: None }
     }

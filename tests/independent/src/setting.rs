@@ -1,7 +1,7 @@
 //! The settings: their table, the values that a state may hold, and their replies.
 
 use crate::argument::{Argument, Rule};
-use crate::frequency::{self, Reference};
+use crate::frequency::{self, Range, Reference};
 use std::sync::LazyLock;
 
 /// A value of a setting: what a command may name, the ends of what is kept, and the start.
@@ -14,14 +14,17 @@ pub struct Value {
 }
 
 impl Value {
+    /// A value that is kept in the range in which a command may name it.
     const fn new(argument: Argument, start: i64) -> Value {
         Value { argument, kept_low: argument.low, kept_high: argument.high, start }
     }
 
+    /// A whole number from `low` to `high`.
     const fn whole(low: i64, high: i64, start: i64) -> Value {
         Value::new(Argument::whole(low, high), start)
     }
 
+    /// PHAS's value, kept above -180.00 and at most at 180.00 degrees.
     const fn phase() -> Value {
         Value { argument: Argument::phase(), kept_low: -17_999, kept_high: 18_000, start: 0 }
     }
@@ -98,10 +101,12 @@ pub fn query(entry: usize) -> String {
     unreachable!("entry {entry}")
 }
 
+/// A setting without channels.
 const fn single(name: &'static str, values: &'static [Value]) -> Setting {
     Setting { name, channels: 0, values }
 }
 
+/// A setting with these values in each channel.
 const fn channelled(name: &'static str, channels: i64, values: &'static [Value]) -> Setting {
     Setting { name, channels, values }
 }
@@ -151,18 +156,27 @@ pub static VALUES: LazyLock<Vec<Value>> = LazyLock::new(|| {
     SETTINGS.iter().flat_map(|setting| (0..setting.channels.max(1)).flat_map(|_| setting.values)).copied().collect()
 });
 
-/// All settings of a state and the last measured external frequency.
+/// All settings of a state, the last measured external frequency, and the range that these have led to.
 #[derive(Clone, Debug, PartialEq, Eq, Hash)]
 pub struct Settings {
+    /// The values by entry, each in its units.
     pub entries: [i64; ENTRIES],
+    /// The external frequency in units of 0.1 mHz.
     pub external: i64,
+    pub range: Range,
 }
 
 impl Settings {
+    /// Those of a start and of *RST.
     pub fn start() -> Settings {
-        Settings { entries: std::array::from_fn(|entry| VALUES[entry].start), external: 1_000 * frequency::HERTZ }
+        Settings {
+            entries: std::array::from_fn(|entry| VALUES[entry].start),
+            external: 1_000 * frequency::HERTZ,
+            range: Range::Upper,
+        }
     }
 
+    /// What decides the detection frequency.
     pub fn reference(&self) -> Reference {
         Reference {
             is_internal: self.entries[FMOD] == 1,
@@ -172,8 +186,7 @@ impl Settings {
         }
     }
 
-    /// Whether a state may hold these: each in range and on its step, the 102 kHz limit, and the long
-    /// time constants only at 200 Hz or below.
+    /// Whether a state may hold these: each by itself, the detection frequency, the range and the time constant.
     pub fn are_allowed(&self) -> bool {
         let each_allowed = self.entries.iter().zip(VALUES.iter()).all(|(&units, value)| value.allows(units));
         let external_allowed = (frequency::LEAST..=frequency::LIMIT).contains(&self.external);
@@ -181,7 +194,8 @@ impl Settings {
         each_allowed
             && external_allowed
             && reference.is_within_limit()
-            && frequency::allows_time_constant(reference.detection(), self.entries[OFLT])
+            && self.range.stands_at(reference.detection())
+            && self.range.allows(self.entries[OFLT])
     }
 }
 
@@ -189,6 +203,7 @@ impl Settings {
 mod tests {
     use super::*;
 
+    /// Names are found at their entries, and queries by them.
     #[test]
     fn entries_stand_in_order() {
         assert_eq!(VALUES.len(), ENTRIES);
@@ -232,6 +247,7 @@ mod tests {
         }
     }
 
+    /// Values of each kind in units, with their replies.
     #[test]
     fn replies() {
         for (entry, units, expected) in [
@@ -252,22 +268,43 @@ mod tests {
         }
     }
 
+    /// Those of a start, a refused start and *RST.
     #[test]
-    fn start_settings_are_allowed() {
+    fn start_settings_are_allowed_and_upper() {
         assert!(Settings::start().are_allowed());
+        assert_eq!(Settings::start().range, Range::Upper);
     }
 
+    /// The start settings at an internal frequency, in a range, with a time constant.
+    fn ranged(internal: i64, range: Range, time_constant: i64) -> Settings {
+        let mut settings = Settings { range, ..Settings::start() };
+        settings.entries[FREQ] = internal;
+        settings.entries[OFLT] = time_constant;
+        settings
+    }
+
+    /// The lower range with any time constant.
     #[test]
-    fn long_time_constant_at_100_hz_and_harmonic_2() {
-        let mut settings = Settings::start();
-        settings.entries[FREQ] = 100 * frequency::HERTZ;
-        settings.entries[HARM] = 2;
-        settings.entries[OFLT] = 14;
-        assert!(settings.are_allowed());
-        settings.entries[FREQ] += 100;
-        assert!(!settings.are_allowed());
-        settings.entries[OFLT] = 13;
-        assert!(settings.are_allowed());
+    fn inside_the_band_both_ranges_are_allowed() {
+        for inside in [frequency::BAND_LOW, 200 * frequency::HERTZ, frequency::BAND_HIGH] {
+            assert!(ranged(inside, Range::Upper, 13).are_allowed(), "{inside}");
+            for time_constant in [0, 13, 14, 19] {
+                assert!(ranged(inside, Range::Lower, time_constant).are_allowed(), "{inside} {time_constant}");
+            }
+        }
+    }
+
+    /// Each alone, beside settings that have none.
+    #[test]
+    fn the_three_faults_of_a_range() {
+        let [below, above] = [frequency::BAND_LOW - 100, frequency::BAND_HIGH + 100];
+        assert!(ranged(above, Range::Upper, 13).are_allowed());
+        assert!(ranged(below, Range::Lower, 19).are_allowed());
+        assert!(!ranged(above, Range::Lower, 13).are_allowed(), "above the band in lower");
+        assert!(!ranged(below, Range::Upper, 13).are_allowed(), "below the band in upper");
+        for frequency in [above, frequency::BAND_HIGH, frequency::BAND_LOW] {
+            assert!(!ranged(frequency, Range::Upper, 14).are_allowed(), "{frequency}: a long time constant in upper");
+        }
     }
 
     #[test]

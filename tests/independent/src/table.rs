@@ -6,7 +6,7 @@ mod lines;
 mod numbers;
 mod values;
 
-use crate::frequency::LEAST;
+use crate::frequency::{Range, LEAST};
 use crate::module::storage::Phase;
 use crate::ops::field::{self, Place, Value};
 use crate::ops::Operation;
@@ -25,10 +25,10 @@ pub fn operations() -> Vec<Operation> {
     lines.into_iter().flat_map(tried).chain(values::operations()).collect()
 }
 
-/// A line on a module where each value in its range is taken: at the least frequency, with a point in
-/// each trace for the lines that read one. What it sets is shown.
+/// A line on a module where each value in its range is taken: at the least frequency, in the lower range,
+/// with a point in each trace for the lines that read one. What it sets is shown.
 fn tried(line: Vec<u8>) -> Vec<Operation> {
-    let mut operations = vec![start(1), alter(Place::Entry(FREQ), Value::Number(LEAST))];
+    let mut operations = vec![start(1), alter(Place::Entry(FREQ), Value::Number(LEAST)), ranged(Range::Lower)];
     if line.to_ascii_uppercase().starts_with(b"TRC") {
         operations.extend(with_points(1));
     }
@@ -36,12 +36,19 @@ fn tried(line: Vec<u8>) -> Vec<Operation> {
     operations
 }
 
+/// A fresh GPIB module of a capacity.
 fn start(capacity: usize) -> Operation {
     Operation::Start { serial: 42, port: 1, lengths: [capacity; 2] }
 }
 
+/// Another value at a place of the state.
 fn alter(place: Place, value: Value) -> Operation {
     Operation::Alter { field: field::at(place), value }
+}
+
+/// Another range in the state.
+fn ranged(range: Range) -> Operation {
+    alter(Place::Range, Value::Range(range))
 }
 
 /// Storage paused with `held` points.
@@ -49,6 +56,7 @@ fn with_points(held: i64) -> [Operation; 2] {
     [alter(Place::Phase, Value::Phase(Phase::Paused)), alter(Place::Held, Value::Number(held))]
 }
 
+/// A line handed over whole.
 fn line(text: &str) -> Operation {
     Operation::Line { line: text.as_bytes().to_vec(), room: ROOM }
 }

@@ -26,8 +26,8 @@ const OPERATIONS_PER_SEED: usize = 28_600;
 const DAMAGED_SEEDS: [u64; 2] = [1, 2];
 const LINES_PER_DAMAGED_SEED: usize = 5_000;
 
-/// The fields by which each call meets refusal 11: all 52 but for the three enables that hold any byte.
-const FIELDS_REFUSED: usize = 49;
+/// The fields by which each call meets refusal 11: all 53 but for the three enables that hold any byte.
+const FIELDS_REFUSED: usize = 50;
 
 /// The time in which an operation is answered.
 const TIME_TO_ANSWER: Duration = Duration::from_secs(10);
@@ -115,6 +115,7 @@ fn random_operations_are_answered_alike() {
     let agreed = compared.into_iter().fold(Agreed::default(), Agreed::and);
     agreed.say(AGREE);
     agreed.say_runs();
+    agreed.say_band();
 }
 
 /// Compares the answers to random operations.

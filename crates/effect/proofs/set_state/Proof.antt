@@ -4,16 +4,7 @@ use Rattle.effect.proofs.set_state.Statement.{statement}
 use Rattle.effect.proofs.set_state.Tie as tie
 
 returns : tie.Need-returns
-returns c =
-    rw (
-      c .crossed .ensures,
-      c .before .detection-now .ensures,
-      c .before .before .set-in .ensures,
-      c .before .before .before .enables-set .ensures,
-    )
+returns c = rw (c .settled .ensures, c .before .set-in .ensures, c .before .before .enables-set .ensures)
 
 pub set-state-spec : {M : Type 1} → statement M
-set-state-spec =
-    tie.close
-    (tie.spec
-    (λ c κs. search needs) (λ c κs. search needs) (λ c κs. search needs) (λ c κs. search needs) returns)
+set-state-spec = tie.close (tie.spec (λ c κs. search needs) (λ c κs. search needs) (λ c κs. search needs) returns)

@@ -12,12 +12,11 @@ returns c = rw (sym (c .before .is-internal .ensures) ∙ c .if1 .taken)
 returns-2 : tie.Need-returns-2
 unfolding measuredBy
 returns-2 c =
-    let taken = c .before .before .before in
+    let taken = c .before .before in
     let mode = taken .before .before in
     simp (
-      c .crossed .ensures,
+      c .settled .ensures,
       c .before .with-external .ensures,
-      c .before .before .detection-now .ensures,
       sym (taken .before .takes-frequency .ensures) ∙ taken .if2 .taken,
       sym (mode .before .is-internal .ensures) ∙ mode .if1 .left,
     )
@@ -36,5 +35,5 @@ pub measured-spec : {M : Type 1} → statement M
 measured-spec =
     tie.close
     (tie.spec
-    (λ c κs. search needs) returns (λ c κs. search needs) (λ c κs. search needs) (λ c κs. search needs)
-    (λ c κs. search needs) returns-2 (λ c κs. search needs) returns-3)
+    (λ c κs. search needs) returns (λ c κs. search needs) (λ c κs. search needs) (λ c κs. search needs) returns-2
+    (λ c κs. search needs) returns-3)

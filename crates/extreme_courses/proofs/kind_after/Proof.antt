@@ -14,10 +14,10 @@ kind-after-spec =
     (λ c κs. search needs)
     (λ c κs. search needs)
     (λ c.
-    let settings = c .before .before in
+    let begun = c .before .before in
     rw (
       c .acquisition-after2 .ensures,
       c .before .acquisition-after .ensures,
-      settings .settings-after .ensures,
-      settings .before .begun-after .ensures,
+      begun .begun-after .ensures,
+      begun .before .before .before .settings-after .ensures,
     )))

@@ -5,15 +5,20 @@ use Rattle.extreme_courses.specs.Extremes.{measuredHigh}
 use Rattle.extreme_courses.proofs.measured_high.Statement.{statement}
 use Rattle.extreme_courses.proofs.measured_high.Tie as tie
 
-pub measured-high-spec : {M : Type 1} → statement M
+returns : tie.Need-returns
 unfolding measuredHigh
+returns c = rw (sym (c .before .is-internal .ensures) ∙ c .if1 .taken)
+
+returns-2 : tie.Need-returns-2
+unfolding measuredHigh
+returns-2 c =
+    let highest = c .before in
+    let mode = highest .before .before in
+    let external = sym (mode .before .is-internal .ensures) ∙ mode .if1 .left in
+    rw (c .range-settled .ensures, highest .highest .ensures, highest .before .value-of .ensures, external)
+
+pub measured-high-spec : {M : Type 1} → statement M
 measured-high-spec =
     tie.close
     (tie.spec
-    (λ c κs. search needs)
-    (λ c. rw (sym (c .before .is-internal .ensures) ∙ c .if1 .taken))
-    (λ c κs. search needs)
-    (λ c κs. search needs)
-    (λ c.
-    let mode = c .before .before in
-    rw (c .highest .ensures, c .before .value-of .ensures, sym (mode .before .is-internal .ensures) ∙ mode .if1 .left)))
+    (λ c κs. search needs) returns (λ c κs. search needs) (λ c κs. search needs) (λ c κs. search needs) returns-2)

@@ -42,13 +42,12 @@ returns-4 c =
 returns-5 : tie.Need-returns-5
 unfolding valueAllowed
 returns-5 c =
-    let tested = c .before .before in
-    let third = tested .before .before in
+    let constant = c .before in
+    let third = constant .before .before in
     rw (
       c .time-constant-stands .ensures,
-      c .before .detection .ensures,
-      eq-eqb _ _ (tested .if5 .taken),
-      ne-eqb _ _ (tested .before .if4 .left),
+      eq-eqb _ _ (constant .if5 .taken),
+      ne-eqb _ _ (constant .before .if4 .left),
       ne-eqb _ _ (third .if3 .left),
       ne-eqb _ _ (third .before .if1 .left),
     )
@@ -84,5 +83,5 @@ value-allowed-spec =
     tie.close
     (tie.spec
     (λ c κs. search needs) (λ c κs. search needs) returns returns-2 (λ c κs. search needs) returns-3
-    (λ c κs. search needs) returns-4 (λ c κs. search needs) (λ c κs. search needs) returns-5 (λ c κs. search needs)
+    (λ c κs. search needs) returns-4 (λ c κs. search needs) returns-5 (λ c κs. search needs)
     returns-6 returns-7)

@@ -4,4 +4,4 @@ use Rattle.settings.proofs.time_constant_stands.Statement.{statement}
 use Rattle.settings.proofs.time_constant_stands.Tie as tie
 
 pub time-constant-stands-spec : {M : Type 1} → statement M
-time-constant-stands-spec = tie.close (tie.spec (λ c κs. search needs) (λ c. rw (c .above-200 .ensures)))
+time-constant-stands-spec = tie.close (tie.spec (λ c κs. search needs) (λ c. rw (c .is-upper .ensures)))

@@ -7,8 +7,14 @@ use Rattle.state.proofs.parts_valid.Tie as tie
 returns : tie.Need-returns
 unfolding partsValid
 returns c =
-    let stored = c .before .before in
-    rw (stored .is-valid .ensures, stored .before .value-of .ensures, c .before .are-valid .ensures, c .bits-valid .ensures)
+    let stored = c .before .before .before in
+    rw (
+      stored .is-valid .ensures,
+      stored .before .value-of .ensures,
+      c .before .are-valid .ensures,
+      c .bits-valid
+          .ensures,
+    )
 
 pub parts-valid-spec : {M : Type 1} → statement M
 parts-valid-spec =

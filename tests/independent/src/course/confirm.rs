@@ -156,6 +156,7 @@ mod tests {
 
     const TRIES: usize = 60;
 
+    /// Whether a verdict, as the check program writes it, is confirmed.
     fn confirms(capacity: usize, script: &str, verdict: &str) -> bool {
         let numbers: Vec<usize> = verdict.split(' ').skip(1).map(|number| number.parse().unwrap()).collect();
         let verdict = match numbers[..] {
@@ -187,6 +188,7 @@ mod tests {
         only(2, "*RST;TSTR 1\nSEND 0", "no 2 1 3", &["ok"]);
     }
 
+    /// Refusals by 7, 8 and 9, which no event changes.
     #[test]
     fn what_the_text_decides() {
         let long = format!("*RST\nHARM 1\n{}\nHARM 0", " ".repeat(257));
@@ -200,6 +202,7 @@ mod tests {
         only(16_384, "*RST", "no 0 0 9", &["ok"]);
     }
 
+    /// Every verdict is confirmed, and random courses refuse most of the commands named.
     #[test]
     fn random_scripts() {
         let tally = confirm(3, 150, 40).unwrap();

@@ -26,10 +26,12 @@ pub fn why(input: &[u8]) -> Result<String, String> {
     Ok(texts.into_iter().map(|text| text + "\n").collect())
 }
 
+/// The command that a verdict refuses by 3; nothing for any other verdict.
 fn by_state(verdict: Result<(), No>) -> Option<No> {
     verdict.err().filter(|no| no.refusal == Refusal::State)
 }
 
+/// The start that every witness begins with.
 fn start(capacity: usize) -> Operation {
     Operation::Start { serial: SERIAL, port: PORT, lengths: [capacity; 2] }
 }
@@ -97,6 +99,7 @@ fn test_operations(
     }
 }
 
+/// Whether an operation is an event, which may fall before a line.
 fn is_event(operation: &Operation) -> bool {
     use Operation::{Measured, Pair, Raise, Tick, Trigger};
     matches!(operation, Measured(_) | Pair(_) | Raise { .. } | Tick | Trigger)

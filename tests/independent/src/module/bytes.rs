@@ -16,6 +16,7 @@ pub struct Input {
 }
 
 impl Module {
+    /// Takes one byte; where it ends a line, obeys that with this room for the replies.
     pub fn byte(&mut self, byte: u8, end_mark: bool, room: usize) -> Answer {
         let role = self.port.role(byte, end_mark);
         if self.input.dropping {

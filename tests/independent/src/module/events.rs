@@ -13,6 +13,7 @@ pub const LIA_RAISABLE: u8 = 0b0000_1111;
 pub const ERR_RAISABLE: u8 = 0b1111_0110;
 
 impl Module {
+    /// Takes a new latest pair; 6 refuses it where a point is not legal.
     pub fn pair(&mut self, pair: [Point; 2]) -> Result<(), Refusal> {
         if !pair.iter().all(|point| point.is_legal()) {
             return Err(Refusal::Event);
@@ -21,12 +22,14 @@ impl Module {
         Ok(())
     }
 
+    /// A tick: stores the latest pair, save at the rate at which triggers store.
     pub fn tick_event(&mut self) {
         if self.settings.entries[SRAT] != TRIGGERED_RATE {
             self.store_latest();
         }
     }
 
+    /// A trigger from outside: has the effect of TRIG.
     pub fn trigger_event(&mut self) {
         self.trigger();
     }
@@ -46,6 +49,7 @@ impl Module {
         }
     }
 
+    /// Sets LIA and ERR bits; 6 refuses all where an event may not raise one of them.
     pub fn raise(&mut self, lia: u8, err: u8) -> Result<(), Refusal> {
         if lia & !LIA_RAISABLE != 0 || err & !ERR_RAISABLE != 0 {
             return Err(Refusal::Event);

@@ -17,10 +17,12 @@ pub struct Answer {
 }
 
 impl Answer {
+    /// The answer where nothing of a line or byte is obeyed: a refusal at place 0.
     pub fn refused(refusal: Refusal) -> Answer {
         Answer { refusal: Some(refusal), ..Answer::default() }
     }
 
+    /// Keeps a refusal with its place, unless an earlier one is kept.
     fn keep_first(&mut self, refusal: Refusal, place: usize) {
         if self.refusal.is_none() {
             self.refusal = Some(refusal);
@@ -30,6 +32,7 @@ impl Answer {
 }
 
 impl Module {
+    /// Obeys the commands of a line in turn, with this room for their replies.
     pub fn line(&mut self, line: &[u8], room: usize) -> Answer {
         if line.len() > MOST_LINE_BYTES {
             self.note(Refusal::Length);

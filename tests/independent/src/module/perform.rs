@@ -4,7 +4,6 @@ use super::status::LIA_TRIGGERED;
 use super::storage::{Phase, Storage};
 use super::Module;
 use crate::command::Command;
-use crate::frequency;
 use crate::refusal::Refusal;
 use crate::setting::{self, Setting, Settings, OFLT, SRAT, TSTR};
 
@@ -12,6 +11,7 @@ use crate::setting::{self, Setting, Settings, OFLT, SRAT, TSTR};
 pub const TRIGGERED_RATE: i64 = 14;
 
 impl Module {
+    /// Has the effect of a command that is no query, unless 3 refuses it.
     pub(super) fn carry_out(&mut self, command: &Command) -> Result<(), Refusal> {
         if let Some((entry, setting)) = setting::find(command.name) {
             return self.set(entry, setting, &command.arguments);
@@ -44,7 +44,7 @@ impl Module {
         let is_allowed = match setting.name {
             "FREQ" => reference.is_internal && reference.is_within_limit(),
             "HARM" | "FMOD" => reference.is_within_limit(),
-            "OFLT" => frequency::allows_time_constant(reference.detection(), settings.entries[OFLT]),
+            "OFLT" => settings.range.allows(settings.entries[OFLT]),
             "SEND" => self.phase() == Phase::Reset,
             _ => true,
         };
@@ -67,6 +67,7 @@ impl Module {
         self.registers.enable(name, new);
     }
 
+    /// Resets storage, so that no point is held; the words of the traces stay.
     fn empty_storage(&mut self) {
         self.storage = Storage::empty(self.storage.capacity());
     }

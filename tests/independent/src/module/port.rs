@@ -1,8 +1,11 @@
 //! The two ports: what ends a line on each, and what ends a reply.
 
+/// Where lines come in and replies go out.
 #[derive(Clone, Copy, Debug, PartialEq, Eq)]
 pub enum Port {
+    /// CR or LF ends a line, and CR a reply.
     Rs232,
+    /// LF or the end mark ends a line, and LF a reply.
     Gpib,
 }
 
@@ -18,6 +21,7 @@ pub enum Role {
 }
 
 impl Port {
+    /// The port that a start names by a number; nothing where it is unknown.
     pub fn from_number(number: u32) -> Option<Port> {
         match number {
             0 => Some(Port::Rs232),
@@ -26,6 +30,7 @@ impl Port {
         }
     }
 
+    /// The number by which a start names it.
     pub fn number(self) -> u32 {
         match self {
             Port::Rs232 => 0,
@@ -41,6 +46,7 @@ impl Port {
         }
     }
 
+    /// What a byte is to its line; the end mark counts on GPIB only.
     pub fn role(self, byte: u8, end_mark: bool) -> Role {
         match (self, byte) {
             (_, b'\n') | (Port::Rs232, b'\r') => Role::End,

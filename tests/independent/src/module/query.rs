@@ -16,6 +16,7 @@ impl Module {
         Ok(bytes)
     }
 
+    /// The text of a query's reply, without its end.
     fn reply_text(&self, query: &Command, reply_waiting: bool) -> String {
         if let Some((entry, setting)) = setting::find(query.name) {
             return self.setting_text(entry, setting, &query.arguments);
@@ -46,6 +47,7 @@ impl Module {
         texts.join(",")
     }
 
+    /// Four bytes for each bin of a trace read; 3 refuses it where a bin is not held.
     fn trace_bytes(&self, query: &Command) -> Result<Vec<u8>, Refusal> {
         let [trace, first, count] =
             query.arguments[..].try_into().map(|values: [i64; 3]| values.map(|value| value as usize)).expect("three");

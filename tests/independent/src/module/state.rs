@@ -14,12 +14,17 @@ use crate::setting::{Settings, SEND};
 #[derive(Clone, Debug, PartialEq, Eq)]
 pub struct State {
     pub serial: u32,
+    /// The port's number, known or not.
     pub port: u8,
+    /// The length that both traces ought to have.
     pub capacity: u32,
     pub settings: Settings,
     pub phase: Phase,
+    /// How many points are held.
     pub held: u32,
+    /// The slot of the next point.
     pub next: u32,
+    /// The points that the next trigger or tick stores.
     pub latest: [Point; 2],
     pub registers: Registers,
     pub input: Input,
@@ -38,6 +43,7 @@ impl State {
             && self.is_input_allowed(port)
     }
 
+    /// The port of the state's number; nothing where it is unknown.
     fn known_port(&self) -> Option<Port> {
         Port::from_number(self.port.into())
     }
@@ -76,6 +82,7 @@ impl State {
 }
 
 impl Module {
+    /// The state that the module is in.
     pub fn state(&self) -> State {
         State {
             serial: self.serial,

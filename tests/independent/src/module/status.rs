@@ -5,7 +5,7 @@ use crate::module::storage::Phase;
 /// Standard event bit 7, the only one set at start.
 const PON: u8 = 1 << 7;
 
-/// LIA bits that the module itself sets, besides those of a crossing.
+/// LIA bits that the module itself sets, besides those of the range.
 pub const LIA_NOT_TAKEN: u8 = 1 << 3;
 pub const LIA_TRIGGERED: u8 = 1 << 6;
 
@@ -31,20 +31,27 @@ pub struct Register {
 }
 
 impl Register {
+    /// Whether some enabled bit is set.
     fn is_raised(self) -> bool {
         self.events & self.enables != 0
     }
 }
 
+/// The three event registers, and the enables for a service request.
 #[derive(Clone, Copy, Debug, PartialEq, Eq)]
 pub struct Registers {
+    /// Read by *ESR, enabled by *ESE.
     pub standard: Register,
+    /// Read by LIAS, enabled by LIAE.
     pub lia: Register,
+    /// Read by ERRS, enabled by ERRE.
     pub err: Register,
+    /// The bits of the status byte that request service, set by *SRE.
     pub service: u8,
 }
 
 impl Registers {
+    /// Those of a start: PON is set and nothing else.
     pub fn start() -> Registers {
         let standard = Register { events: PON, enables: 0 };
         Registers { standard, lia: Register::default(), err: Register::default(), service: 0 }
@@ -76,6 +83,7 @@ impl Registers {
         *self.enables(name) = if name == "*SRE" { value & SERVICE_BITS } else { value };
     }
 
+    /// Clears the three event registers; the enables stay.
     pub fn clear_events(&mut self) {
         for register in [&mut self.standard, &mut self.lia, &mut self.err] {
             register.events = 0;
@@ -92,6 +100,7 @@ impl Registers {
         self.byte_of(phase, true, false)
     }
 
+    /// The status byte, where no command runs or one does, and a reply is waiting or not.
     fn byte_of(&self, phase: Phase, no_command: bool, reply_waiting: bool) -> u8 {
         let bits = [
             (matches!(phase, Phase::Reset | Phase::Done), STORAGE_IDLE),

@@ -1,30 +1,42 @@
 //! Storage of points. What is kept is the number of points since the last emptying; the points held,
 //! the slots and whether storage is done follow from it.
 
+/// What storage does with the next point.
 #[derive(Clone, Copy, Debug, PartialEq, Eq, Hash)]
 pub enum Phase {
+    /// It holds no point, and takes none before it is started.
     Reset,
+    /// Ticks or triggers store points.
     Running,
+    /// It keeps its points, and takes no more before it is started again.
     Paused,
+    /// It is full in one shot, and takes no more before it is reset.
     Done,
 }
 
 /// What was last asked of storage.
 #[derive(Clone, Copy, Debug, PartialEq, Eq)]
 enum Asked {
+    /// Neither a start nor a pause since the last emptying.
     Nothing,
+    /// To start, by STRT or a trigger.
     ToRun,
+    /// To pause, by PAUS.
     ToPause,
 }
 
+/// What decides where the next point goes, and which points are held.
 #[derive(Clone, Copy, Debug, PartialEq, Eq)]
 pub struct Storage {
+    /// The length of both traces.
     capacity: usize,
     asked: Asked,
+    /// The points since the last emptying, those that a loop has overwritten too.
     points: usize,
 }
 
 impl Storage {
+    /// Storage that is reset.
     pub fn empty(capacity: usize) -> Storage {
         Storage { capacity, asked: Asked::Nothing, points: 0 }
     }
@@ -40,6 +52,7 @@ impl Storage {
         }
     }
 
+    /// The length of both traces.
     pub fn capacity(&self) -> usize {
         self.capacity
     }

@@ -6,8 +6,11 @@ use crate::hex;
 /// A difference: the operations that show it, and both answers to the last of them.
 #[derive(Debug, PartialEq, Eq)]
 pub struct Difference {
+    /// The texts of the operations.
     pub operations: Vec<Vec<u8>>,
+    /// The answer given here.
     pub expected: String,
+    /// The other program's answer; nothing where it gave none.
     pub given: Option<String>,
 }
 

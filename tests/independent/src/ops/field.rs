@@ -1,5 +1,6 @@
 //! The fields of the state, as `dump` writes them and `alter` names and reads them.
 
+use crate::frequency::Range;
 use crate::hex;
 use crate::module::state::State;
 use crate::module::storage::Phase;
@@ -12,33 +13,51 @@ use std::sync::LazyLock;
 const PHASES: [(&str, Phase); 4] =
     [("reset", Phase::Reset), ("running", Phase::Running), ("paused", Phase::Paused), ("done", Phase::Done)];
 
+/// The words for the ranges.
+const RANGES: [(&str, Range); 2] = [("upper", Range::Upper), ("lower", Range::Lower)];
+
 /// How many waiting bytes `dump` writes at most.
 const MOST_SHOWN: usize = 256;
 
 /// Where in the state a field lies.
 #[derive(Clone, Copy, Debug, PartialEq, Eq, Hash)]
 pub enum Place {
+    /// The serial number.
     Serial,
+    /// The port's number.
     Port,
+    /// The length that both traces ought to have.
     Capacity,
+    /// The value of a setting, by its entry.
     Entry(usize),
+    /// The external frequency.
     External,
+    /// The phase of storage.
     Phase,
+    /// How many points are held.
     Held,
+    /// The slot of the next point.
     Next,
+    /// A point of the latest pair, 0 or 1.
     Latest(usize),
     /// The event register that a query of this name reads.
     Events(&'static str),
     /// The enables that a command of this name sets.
     Enables(&'static str),
+    /// The bytes waiting for their line's end.
     Queue,
+    /// Whether bytes are dropped up to the line's end.
     Dropping,
+    /// The frequency range.
+    Range,
 }
 
 /// A field, or a part of one that is a list.
 #[derive(Clone, Copy, Debug, PartialEq, Eq, Hash)]
 pub struct Field {
+    /// Its name in `dump`.
     name: &'static str,
+    /// The place in its list, from 0; nothing where it is no list.
     part: Option<usize>,
     pub place: Place,
 }
@@ -46,10 +65,16 @@ pub struct Field {
 /// What a field holds.
 #[derive(Clone, Debug, PartialEq, Eq)]
 pub enum Value {
+    /// A number, of a setting in its units.
     Number(i64),
+    /// The word of a point.
     Word(u32),
+    /// A phase of storage, written as a word.
     Phase(Phase),
+    /// Waiting bytes.
     Bytes(Vec<u8>),
+    /// A frequency range, written as a word.
+    Range(Range),
 }
 
 impl fmt::Display for Value {
@@ -57,14 +82,25 @@ impl fmt::Display for Value {
         match self {
             Value::Number(number) => write!(f, "{number}"),
             Value::Word(word) => write!(f, "{word:08x}"),
-            Value::Phase(phase) => write!(f, "{}", PHASES.iter().find(|(_, other)| other == phase).expect("four").0),
+            Value::Phase(phase) => write!(f, "{}", word_of(&PHASES, phase)),
             Value::Bytes(bytes) => write!(f, "{}", hex::field(bytes)),
+            Value::Range(range) => write!(f, "{}", word_of(&RANGES, range)),
         }
     }
 }
 
+/// The word for one of several.
+fn word_of<T: PartialEq>(words: &[(&'static str, T)], of: &T) -> &'static str {
+    words.iter().find(|(_, other)| other == of).expect("each has its word").0
+}
+
+/// The one of several that a word stands for.
+fn worded<T: Copy>(words: &[(&str, T)], text: &str) -> Option<T> {
+    words.iter().find(|(word, _)| *word == text).map(|(_, of)| *of)
+}
+
 /// Every field in the order of `dump`: the settings' table is in that order too, save that the
-/// external frequency comes after the internal one.
+/// external frequency comes after the internal one. The range comes after the traces, which are no fields.
 pub static FIELDS: LazyLock<Vec<Field>> = LazyLock::new(|| {
     let single = |(name, place)| Field { name, part: None, place };
     let mut fields: Vec<Field> =
@@ -89,7 +125,7 @@ pub static FIELDS: LazyLock<Vec<Field>> = LazyLock::new(|| {
     );
     let enables = [("ese", "*ESE"), ("sre", "*SRE"), ("liae", "LIAE"), ("erre", "ERRE")];
     fields.extend(enables.map(|(name, of)| single((name, Place::Enables(of)))));
-    fields.extend([("queue", Place::Queue), ("dropping", Place::Dropping)].map(single));
+    fields.extend([("queue", Place::Queue), ("dropping", Place::Dropping), ("range", Place::Range)].map(single));
     fields
 });
 
@@ -103,10 +139,16 @@ pub fn entry(entry: usize) -> Field {
     at(Place::Entry(entry))
 }
 
-/// The state as `name=value`, divided by single spaces.
-pub fn text(state: &State) -> String {
+/// The fields that `dump` writes before the traces, and those behind them.
+pub fn around_traces() -> (&'static [Field], &'static [Field]) {
+    let behind = FIELDS.iter().position(|field| field.place == Place::Range).expect("a place of the state");
+    FIELDS.split_at(behind)
+}
+
+/// Fields of the state as `name=value`, divided by single spaces.
+pub fn text(state: &State, fields: &[Field]) -> String {
     let mut text = String::new();
-    for field in FIELDS.iter() {
+    for field in fields {
         let value = shown(field.get(state));
         match field.part {
             None | Some(0) => text.push_str(&format!("{}={value}", field.name)),
@@ -121,6 +163,7 @@ pub fn text(state: &State) -> String {
     text
 }
 
+/// The value as far as `dump` writes it: of waiting bytes the first 256.
 fn shown(value: Value) -> Value {
     match value {
         Value::Bytes(mut bytes) => {
@@ -164,12 +207,14 @@ impl Field {
     pub fn read(&self, text: &str) -> Option<Value> {
         match self.place {
             Place::Latest(_) => super::digits(text, 8).map(Value::Word),
-            Place::Phase => PHASES.iter().find(|(word, _)| *word == text).map(|(_, phase)| Value::Phase(*phase)),
+            Place::Phase => worded(&PHASES, text).map(Value::Phase),
+            Place::Range => worded(&RANGES, text).map(Value::Range),
             Place::Queue => super::bytes(text).map(Value::Bytes),
             _ => self.read_number(text).map(Value::Number),
         }
     }
 
+    /// The number of a text, where the field holds it; only a setting's may have a minus.
     fn read_number(&self, text: &str) -> Option<i64> {
         let (low, high) = self.ends();
         let magnitude = |digits| super::number(digits, u32::MAX).map(i64::from);
@@ -180,6 +225,7 @@ impl Field {
         (low <= number && number <= high).then_some(number)
     }
 
+    /// What the field holds in a state.
     pub fn get(&self, state: &State) -> Value {
         let mut registers = state.registers;
         Value::Number(match self.place {
@@ -196,19 +242,23 @@ impl Field {
             Place::Enables(name) => (*registers.enables(name)).into(),
             Place::Queue => return Value::Bytes(state.input.queue.clone()),
             Place::Dropping => state.input.dropping.into(),
+            Place::Range => return Value::Range(state.settings.range),
         })
     }
 
+    /// Puts a value into the field of a state.
     pub fn set(&self, state: &mut State, value: &Value) {
         match (self.place, value) {
             (Place::Phase, Value::Phase(phase)) => state.phase = *phase,
             (Place::Latest(part), Value::Word(word)) => state.latest[part] = Point { word: *word },
             (Place::Queue, Value::Bytes(bytes)) => state.input.queue.clone_from(bytes),
+            (Place::Range, Value::Range(range)) => state.settings.range = *range,
             (_, Value::Number(number)) => self.set_number(state, *number),
             _ => unreachable!("{self} holds no {value:?}"),
         }
     }
 
+    /// Puts a number into the field of a state.
     fn set_number(&self, state: &mut State, number: i64) {
         match self.place {
             Place::Serial => state.serial = number as u32,
@@ -234,13 +284,13 @@ mod tests {
 
     #[test]
     fn fields_stand_once_each_and_are_found_by_name() {
-        assert_eq!(FIELDS.len(), ENTRIES + 18);
+        assert_eq!(FIELDS.len(), ENTRIES + 19);
         for field in FIELDS.iter() {
             assert_eq!(Field::named(&field.to_string()), Some(*field));
         }
         for name in [
             "ddef", "ddef.4", "ddef.00", "ddef.-1", "pair", "pair.2", "phas.0", "PHAS", "t1", "t2", "", "queue.0",
-            "fpop.",
+            "fpop.", "Range", "range.0",
         ] {
             assert_eq!(Field::named(name), None, "{name}");
         }
@@ -269,6 +319,8 @@ mod tests {
             ("queue", "0a0d"),
             ("queue", "-"),
             ("dropping", "1"),
+            ("range", "lower"),
+            ("range", "upper"),
         ] {
             let field = Field::named(name).unwrap();
             let value = field.read(text).unwrap();
@@ -278,7 +330,7 @@ mod tests {
         }
         let queue = Field::named("queue").unwrap();
         queue.set(&mut state, &Value::Bytes(vec![65; 300]));
-        assert!(text(&state).contains(&format!("queue={} ", "41".repeat(256))));
+        assert!(text(&state, &FIELDS).contains(&format!("queue={} ", "41".repeat(256))));
     }
 
     #[test]
@@ -307,6 +359,10 @@ mod tests {
             ("queue", "4"),
             ("dropping", "2"),
             ("dropping", "true"),
+            ("range", "0"),
+            ("range", ""),
+            ("range", "Upper"),
+            ("range", "middle"),
         ] {
             assert_eq!(Field::named(name).unwrap().read(text), None, "{name} {text}");
         }

@@ -7,8 +7,11 @@ use crate::refusal::Refusal;
 struct Run<'a> {
     bytes: &'a [u8],
     end_mark: bool,
+    /// How many of its bytes were taken.
     taken: usize,
+    /// The number of its first refusal; 0 for none.
     refusal: usize,
+    /// The line of its first refusal, from 1; 0 where no line is refused.
     line: usize,
     /// What the run before it has not taken.
     rest_before: &'a [u8],

@@ -118,6 +118,7 @@ impl Session {
         }
     }
 
+    /// Another module in place of this one: the one asked for, or that of a refused start.
     fn start(&mut self, serial: u32, port: u32, lengths: [usize; 2]) -> String {
         let started = Module::start(serial, port, lengths);
         let refusal = started.as_ref().err().copied();
@@ -125,6 +126,7 @@ impl Session {
         format!("R {}", number(refusal))
     }
 
+    /// Does what an operation asks for; the answer to it.
     pub fn perform(&mut self, operation: &Operation) -> String {
         match operation {
             Operation::Start { serial, port, lengths } => self.start(*serial, *port, *lengths),
@@ -155,6 +157,7 @@ impl Session {
     }
 }
 
+/// The number of a refusal; 0 for none.
 fn number(refusal: Option<Refusal>) -> usize {
     refusal.map_or(0, Refusal::number)
 }

@@ -8,10 +8,12 @@ use std::thread;
 
 /// Another program, run anew on each stream.
 pub struct Other<'a> {
+    /// The path by which it is run.
     pub program: &'a str,
 }
 
 impl Other<'_> {
+    /// What it answers to a stream of operations.
     fn answers(&self, operations: &[Vec<u8>]) -> Result<Vec<u8>, String> {
         let told = |error: std::io::Error| format!("{}: {error}", self.program);
         let mut child =

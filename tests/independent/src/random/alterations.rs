@@ -3,6 +3,7 @@
 
 use super::generator::Generator;
 use super::{near, point, settings, states};
+use crate::frequency::Range;
 use crate::module::state::State;
 use crate::module::storage::Phase;
 use crate::ops::field::{self, Field, Place, Value, FIELDS};
@@ -11,9 +12,15 @@ use crate::setting::{self, FMOD, FREQ, HARM, OFLT, SEND, VALUES};
 
 /// Fields that a rule reads together.
 const TOGETHER: &[&[Place]] = &[
-    &[Place::Entry(FMOD), Place::Entry(FREQ), Place::External, Place::Entry(HARM), Place::Entry(OFLT)],
+    &[Place::Entry(FMOD), Place::Entry(FREQ), Place::External, Place::Entry(HARM), Place::Entry(OFLT), Place::Range],
     &[Place::Entry(HARM), Place::External],
     &[Place::Entry(OFLT), Place::Entry(FREQ)],
+    &[Place::Entry(FREQ), Place::Range],
+    &[Place::Entry(FREQ), Place::Range, Place::Entry(OFLT)],
+    &[Place::External, Place::Range],
+    &[Place::Range, Place::Entry(OFLT)],
+    &[Place::Range],
+    &[Place::Entry(OFLT)],
     &[Place::Phase, Place::Held, Place::Next, Place::Entry(SEND)],
     &[Place::Phase, Place::Held, Place::Next],
     &[Place::Held, Place::Next],
@@ -61,6 +68,7 @@ pub fn to_another_state(generator: &mut Generator, session: &Session) -> Vec<Ope
     differ.map(|field| Operation::Alter { field: *field, value: field.get(&other) }).collect()
 }
 
+/// The alteration of a field to a value, and back to what the state holds.
 fn change(field: Field, state: &State, value: Value) -> Change {
     let back = Operation::Alter { field, value: field.get(state) };
     Change { there: Operation::Alter { field, value }, back }
@@ -73,6 +81,7 @@ fn value(generator: &mut Generator, field: &Field, state: &State) -> Value {
         Place::Phase => {
             return Value::Phase(generator.pick(&[Phase::Reset, Phase::Running, Phase::Paused, Phase::Done]))
         }
+        Place::Range => return Value::Range(generator.pick(&Range::ALL)),
         Place::Latest(_) => return Value::Word(point(generator).word),
         Place::Queue => return Value::Bytes(queue(generator)),
         _ if generator.chance(4) => generator.pick(&[low, high]),
@@ -101,10 +110,12 @@ fn value(generator: &mut Generator, field: &Field, state: &State) -> Value {
     Value::Number(number.clamp(low, high))
 }
 
+/// A value for a setting, often near what the others leave it.
 fn units(generator: &mut Generator, entry: usize, state: &State) -> i64 {
     let reference = state.settings.reference();
     match (entry, generator.below(3)) {
-        (FREQ, 0) => near::frequency(generator, reference.harmonic.max(1)),
+        (FREQ, 0) => near::settable(generator, reference.harmonic.max(1)),
+        (FREQ, 1) => near::frequency(generator, reference.harmonic.max(1)),
         (HARM, 0) => near::frequency(generator, reference.in_force().max(1)),
         (OFLT, 0) => generator.between(12, 15),
         _ => settings::near(generator, &VALUES[entry]),

@@ -3,7 +3,7 @@
 use super::generator::Generator;
 use super::{operations, states};
 use crate::course::{refusal_of, Course};
-use crate::frequency::LIMIT;
+use crate::frequency::{beside_band, LIMIT};
 use crate::ops::{Operation, Session};
 use crate::setting::HARM;
 
@@ -35,14 +35,16 @@ pub fn let_events_fall(generator: &mut Generator, session: &mut Session, most: u
         .collect()
 }
 
-/// An event, legal or not; often the highest frequency that can be measured, or a trigger.
+/// An event, legal or not; often the highest frequency that is taken, one beside the band, or a trigger.
 fn event(generator: &mut Generator, session: &Session) -> Operation {
-    match generator.below(12) {
-        0..=3 => Operation::Measured((LIMIT / session.module.settings.entries[HARM]) as u32),
-        4 | 5 => operations::measured(generator, session),
-        6..=8 => Operation::Trigger,
-        9 => Operation::Tick,
-        10 => operations::pair(generator),
+    let harmonic = session.module.settings.entries[HARM];
+    match generator.below(14) {
+        0..=3 => Operation::Measured((LIMIT / harmonic) as u32),
+        4 | 5 => Operation::Measured(generator.pick(&beside_band(harmonic)) as u32),
+        6 | 7 => operations::measured(generator, session),
+        8..=10 => Operation::Trigger,
+        11 => Operation::Tick,
+        12 => operations::pair(generator),
         _ => operations::raise(generator),
     }
 }

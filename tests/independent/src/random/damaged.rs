@@ -32,6 +32,7 @@ pub fn operation(generator: &mut Generator, text: &[u8]) -> Vec<u8> {
     without_line_ends(fields.join(&b' '))
 }
 
+/// The text without LF, so that it is one line.
 fn without_line_ends(mut text: Vec<u8>) -> Vec<u8> {
     text.retain(|&byte| byte != b'\n');
     text
@@ -44,6 +45,7 @@ pub struct Lines {
 }
 
 impl Lines {
+    /// The lines of a seed.
     pub fn new(seed: u64) -> Lines {
         Lines { generator: Generator::new(!seed), operations: Operations::new(seed) }
     }

@@ -5,7 +5,7 @@ use super::{lines, near, scripts};
 use crate::argument::Argument;
 use crate::command::{self, FORMS, MOST_LINE_BYTES};
 use crate::decimal::Decimal;
-use crate::frequency::{Reference, DECIMALS, LIMIT, SLOW_LIMIT};
+use crate::frequency::{Reference, BAND_HIGH, BAND_LOW, DECIMALS, LIMIT};
 use crate::module::Module;
 use crate::ops::Operation;
 use crate::refusal::Refusal;
@@ -17,7 +17,7 @@ const MOST_LINES: usize = 12;
 /// How often another command is tried before an empty one is taken.
 const TRIES: usize = 12;
 
-/// Commands right after *RST, with which points are held or a frequency is near its limit.
+/// Commands right after *RST, with which points are held, or a frequency is near its limit or in the band.
 const FIRST_COMMANDS: &[&str] = &[
     "SRAT 14;STRT;TRIG;TRIG",
     "SRAT 14;STRT;TRIG;PAUS;TRIG",
@@ -33,6 +33,12 @@ const FIRST_COMMANDS: &[&str] = &[
     "FMOD 0;FMOD 1",
     "HARM 102;FMOD 0",
     "FREQ 100;HARM 2;OFLT 14",
+    "FREQ 199.2;FREQ 203.12;OFLT 14",
+    "FREQ 199.21",
+    "FREQ 203.12",
+    "FREQ 101.56;HARM 2;OFLT 19",
+    "FREQ 100;FREQ 200;FMOD 0",
+    "FREQ 199.2;FREQ 199.21;FMOD 0;FMOD 1",
     "FREQ 51000;HARM 2",
     "FREQ 5.1;HARM 19999",
     "FREQ .001;HARM 19999",
@@ -53,6 +59,7 @@ const DAMAGED_RESETS: &[&str] =
 /// What a script is meant to come to.
 #[derive(Clone, Copy, Debug, PartialEq, Eq)]
 enum Aim {
+    /// No course refuses a command.
     Pass,
     /// A command refused by 1, 2 or 3.
     Refused(Refusal),
@@ -62,14 +69,18 @@ enum Aim {
     NotBegun,
     /// A capacity that no traces have.
     NoTraces,
+    /// Whatever random commands come to.
     Anything,
 }
 
 /// What most of a script's commands have to do with.
 #[derive(Clone, Copy, Debug, PartialEq, Eq)]
 enum Theme {
+    /// The detection frequency, and what it decides.
     Frequency,
+    /// How points are stored.
     Points,
+    /// Nothing in particular.
     All,
 }
 
@@ -98,6 +109,7 @@ pub struct Scripts {
 }
 
 impl Scripts {
+    /// The scripts of a seed.
     pub fn new(seed: u64) -> Scripts {
         Scripts { generator: Generator::new(seed) }
     }
@@ -160,16 +172,20 @@ pub fn long(seed: u64, bytes: usize) -> Option<Vec<u8>> {
 struct Writer<'a> {
     generator: &'a mut Generator,
     walk: Walk,
+    /// The module of the course without events.
     quiet: Module,
     theme: Theme,
+    /// The lines that are ended.
     script: Vec<u8>,
     /// The line under way, and how many commands it has.
     line: Vec<u8>,
     commands: usize,
+    /// What ends each line: LF, or CR and LF.
     line_end: &'static [u8],
 }
 
 impl Writer<'_> {
+    /// An empty script for a capacity, with a theme and a line end.
     fn new(generator: &mut Generator, capacity: usize) -> Writer<'_> {
         let line_end = generator.pick(&[&b"\n"[..], b"\n", b"\n", b"\n", b"\r\n"]);
         let quiet = Module::start(0, 1, [capacity; 2]).unwrap_or_else(|_| Module::refused());
@@ -178,6 +194,7 @@ impl Writer<'_> {
         Writer { generator, walk, quiet, theme, script: Vec::new(), line: Vec::new(), commands: 0, line_end }
     }
 
+    /// A whole script that is to come to its aim after at most so many lines.
     fn script(mut self, aim: Aim, most_lines: usize) -> Vec<u8> {
         self.begin(aim);
         for _ in 0..self.generator.below(most_lines) {
@@ -255,6 +272,7 @@ impl Writer<'_> {
         true
     }
 
+    /// Puts a text behind the commands of the line, whatever it comes to.
     fn put(&mut self, text: &[u8]) {
         if self.commands > 0 {
             self.line.push(b';');
@@ -273,6 +291,7 @@ impl Writer<'_> {
         self.line.len() + 1 + text.len() <= self.most_bytes() && !text.contains(&b'\n')
     }
 
+    /// Ends the line, now and then filled to about 256 bytes, and begins the next.
     fn next_line(&mut self) {
         if self.generator.chance(3) && self.line.len() + 2 <= self.most_bytes() {
             let filler = self.generator.pick(b"  ;\r");
@@ -294,6 +313,7 @@ impl Writer<'_> {
         (0..count).for_each(|_| self.lawful_command());
     }
 
+    /// A command that no course refuses; an empty one where none is found.
     fn lawful_command(&mut self) {
         let is_put = (0..TRIES).any(|_| {
             let text = self.state_command();
@@ -366,6 +386,7 @@ impl Writer<'_> {
         self.put(if refusal == Refusal::State { b"TRCL?1,16383,1" } else { b"HARM" });
     }
 
+    /// Fills the line to over 256 bytes and ends it.
     fn too_long(&mut self) {
         let more = self.generator.pick(&[1, 1, 2, 30, 3_000]);
         let filler = self.generator.pick(b" ;\r0");
@@ -417,6 +438,7 @@ impl Writer<'_> {
     }
 }
 
+/// A command of the theme, or one near what decides in these courses.
 fn near_courses(generator: &mut Generator, courses: &Courses, theme: Theme) -> Vec<u8> {
     let reference = courses.reference();
     match (theme, generator.chance(50)) {
@@ -437,9 +459,9 @@ fn near_courses(generator: &mut Generator, courses: &Courses, theme: Theme) -> V
     }
 }
 
-/// A frequency, harmonic or time constant on one side or the other of a limit.
+/// A frequency, harmonic or time constant on one side or the other of the limit or an end of the band.
 fn at_limit(generator: &mut Generator, reference: &Reference) -> String {
-    let limit = generator.pick(&[LIMIT, LIMIT, SLOW_LIMIT]);
+    let limit = generator.pick(&[LIMIT, LIMIT, BAND_LOW - 1, BAND_HIGH]);
     match generator.below(5) {
         0 | 1 => format!("FREQ {}", beside(generator, limit / reference.harmonic).plain()),
         2 | 3 => {

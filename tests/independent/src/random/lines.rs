@@ -96,6 +96,7 @@ pub fn set_and_query(generator: &mut Generator) -> Vec<u8> {
     line
 }
 
+/// The text of a command: its name, "?" where it is a query, and its arguments.
 fn written(name: &str, is_query: bool, arguments: &[String]) -> Vec<u8> {
     let mark = if is_query { "?" } else { "" };
     let gap = if arguments.is_empty() { "" } else { " " };

@@ -1,10 +1,11 @@
-//! Random commands near what decides in a state: limits, crossings, storage, status.
+//! Random commands near what decides in a state: the limit, the band, storage, status.
 
 use super::generator::Generator;
 use super::lines;
+use crate::argument::Argument;
 use crate::command::FORMS;
 use crate::decimal::Decimal;
-use crate::frequency::{Reference, DECIMALS, HERTZ, LEAST, LIMIT, SLOW_LIMIT};
+use crate::frequency::{Reference, BAND_HIGH, BAND_LOW, DECIMALS, HERTZ, LEAST, LIMIT};
 use crate::module::Module;
 
 /// A command chosen with an eye on the module's state.
@@ -31,10 +32,17 @@ pub fn command(generator: &mut Generator, module: &Module) -> Vec<u8> {
     text
 }
 
-/// A frequency that meets a limit together with a factor, or just misses it.
+/// A frequency that meets the limit or an end of the band together with a factor, or just misses it.
 pub fn frequency(generator: &mut Generator, factor: i64) -> i64 {
-    let limit = generator.pick(&[LIMIT, LIMIT, SLOW_LIMIT, SLOW_LIMIT, LEAST * factor, 1_000 * HERTZ]);
-    (limit / factor + generator.between(-1, 2)).max(0)
+    let end = generator.pick(&[LIMIT, LIMIT, BAND_LOW, BAND_LOW, BAND_HIGH, BAND_HIGH, LEAST * factor, 1_000 * HERTZ]);
+    (end / factor + generator.between(-1, 2)).max(0)
+}
+
+/// A frequency that FREQ can set, just inside the band or just outside it with a harmonic.
+pub fn settable(generator: &mut Generator, harmonic: i64) -> i64 {
+    let end = generator.pick(&[BAND_LOW, BAND_HIGH]) / harmonic;
+    let step = Argument::frequency().step_at(end);
+    (end - end % step + step * generator.between(-1, 1)).max(LEAST)
 }
 
 /// A command that changes the detection frequency, or is decided by it.
@@ -44,7 +52,8 @@ pub fn reference(generator: &mut Generator, reference: &Reference) -> String {
         1 => "FMOD 0".to_string(),
         2 | 3 => {
             let near = frequency(generator, reference.harmonic);
-            let wanted = generator.pick(&[near, near, near, 100 * HERTZ, 10 * HERTZ]);
+            let settable = settable(generator, reference.harmonic);
+            let wanted = generator.pick(&[near, near, settable, settable, 200 * HERTZ, 100 * HERTZ, 10 * HERTZ]);
             format!("FREQ {}", Decimal::new(i128::from(wanted), DECIMALS).plain())
         }
         4 | 5 => {
@@ -83,6 +92,7 @@ pub fn trace_read(generator: &mut Generator, held: usize) -> String {
     format!("{name}? {},{first},{count}", generator.between(1, 2))
 }
 
+/// A command that reads, enables or clears status.
 fn status(generator: &mut Generator) -> String {
     let bit = generator.between(0, 8).min(7 + i64::from(generator.chance(10)));
     match generator.below(12) {

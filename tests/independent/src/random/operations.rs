@@ -18,17 +18,20 @@ const SHORT_TRACE: usize = 64;
 /// An endless course of operations' texts, the same for the same seed.
 pub struct Operations {
     generator: Generator,
+    /// The module that all operations so far were performed on.
     session: Session,
     /// Operations that follow at once.
     next: VecDeque<Operation>,
 }
 
 impl Operations {
+    /// The operations of a seed.
     pub fn new(seed: u64) -> Operations {
         let first = Operation::Dump;
         Operations { generator: Generator::new(seed), session: Session::new(), next: VecDeque::from([first]) }
     }
 
+    /// Chooses the next operation, or several that belong together.
     fn plan(&mut self) {
         let Operations { generator, session, next } = self;
         match generator.below(1_110) {
@@ -116,6 +119,12 @@ const FIRST_LINES: &[&str] = &[
     "FMOD 0",
     "FMOD 0;SEND 0;TSTR 1",
     "FREQ 100;HARM 2;OFLT 14;FMOD 0",
+    "FREQ 100;HARM 2;OFLT 14",
+    "FREQ 199.2;OFLT 19;FREQ 203.12",
+    "FREQ 199.21",
+    "FREQ 203.12",
+    "FREQ 101.56;HARM 2;OFLT 15",
+    "HARM 2;FREQ 99.6;FREQ 101.56",
     "*ESE 255;*SRE 255;LIAE 255;ERRE 255",
 ];
 
@@ -152,7 +161,7 @@ pub fn line(generator: &mut Generator, module: &Module) -> Vec<u8> {
             commands.join(&b';')
         }
     };
-    if generator.chance(2) {
+    if generator.chance(4) {
         let length = MOST_LINE_BYTES - 2 + generator.below(5);
         let filler = generator.pick(b" ;\r 0");
         line.resize(length, filler);
@@ -269,6 +278,7 @@ pub fn raise(generator: &mut Generator) -> Operation {
     }
 }
 
+/// A word into a slot, now and then into one that is not there.
 fn poke(generator: &mut Generator, session: &Session) -> Operation {
     let capacity = session.module.storage.capacity();
     let slot =
@@ -328,6 +338,7 @@ fn call(generator: &mut Generator, session: &Session) -> Operation {
     }
 }
 
+/// The check of a random script, mostly for a small capacity.
 fn check(generator: &mut Generator) -> Operation {
     let capacity = match generator.below(20) {
         0 => generator.pick(&[0, 16_384, u32::MAX as usize]),
@@ -340,6 +351,7 @@ fn check(generator: &mut Generator) -> Operation {
 #[cfg(test)]
 mod tests {
     use super::*;
+    use crate::ops::band;
     use crate::ops::runs::{counts, with_words};
 
     #[test]
@@ -385,6 +397,16 @@ mod tests {
         }
         least("serial", "fmod=0", 300);
         least("serial", "dropping=1", 5);
+    }
+
+    /// Each fault of a range, each range inside the band, and each way that a range can move comes up often enough.
+    #[test]
+    fn every_way_to_meet_the_band_comes_up() {
+        let operations: Vec<Vec<u8>> = Operations::new(1).take(20_000).collect();
+        let operations: Vec<&[u8]> = operations.iter().map(Vec::as_slice).collect();
+        for (found, kind) in band::with_words(band::counts(&operations)) {
+            assert!(found >= 15, "{kind}: {found}");
+        }
     }
 
     /// Runs that stop, are gone on with, and are refused in each way come up often enough.

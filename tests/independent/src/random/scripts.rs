@@ -41,7 +41,16 @@ const COMMANDS: &[&str] = &[
     "FREQ 1000",
     "FREQ 102000",
     "FREQ 100.01",
+    "FREQ 99.6",
+    "FREQ 101.56",
+    "FREQ 101.57",
+    "FREQ 199.2",
+    "FREQ 199.21",
+    "FREQ 200",
+    "FREQ 203.12",
+    "FREQ 203.13",
     "FREQ .001",
+    "OFLT 14",
     "OFLT 14",
     "OFLT 19",
     "OFLT 13",
@@ -52,13 +61,16 @@ const COMMANDS: &[&str] = &[
     "",
 ];
 
-/// First lines after which points are held, or a frequency is open.
+/// First lines after which points are held, a frequency is open, or the range hangs on what came before.
 const FIRST_LINES: &[&[u8]] = &[
     b"*RST;SRAT 14;STRT;TRIG;TRIG",
     b"*RST;SRAT 14;TSTR 1;TRIG",
     b"*RST;SRAT 14;SEND 0;TSTR 1;TRIG;PAUS",
     b"*RST;SEND 0;SRAT 14;STRT;TRIG\n\nTRIG",
     b"*RST;FREQ 100;HARM 2;OFLT 14",
+    b"*RST;FREQ 199.2;FREQ 203.12",
+    b"*RST;FREQ 101.56;HARM 2;FMOD 0\nFMOD 1",
+    b"*RST;FREQ 1;FMOD 0\nFMOD 1;FREQ 200",
     b"*RST;FMOD 0;FREQ?;OFLT 3\nFMOD 1",
     b"*RST;HARM 102;FMOD 0\nFMOD 1;FREQ .001",
 ];

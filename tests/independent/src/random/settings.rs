@@ -1,7 +1,7 @@
 //! Random settings: allowed ones, and values near the ends of what is kept.
 
 use super::generator::Generator;
-use crate::frequency::{FIRST_LONG_TIME_CONSTANT, LEAST, LIMIT, SLOW_LIMIT};
+use crate::frequency::{Range, BAND_HIGH, BAND_LOW, FIRST_LONG_TIME_CONSTANT, LEAST, LIMIT};
 use crate::setting::{Settings, Value, FREQ, HARM, OFLT, VALUES};
 
 /// The largest harmonic, and a frequency beyond all that are allowed.
@@ -43,7 +43,7 @@ pub fn external(generator: &mut Generator) -> i64 {
     }
 }
 
-/// Settings that a state may hold, often just at a limit.
+/// Settings that a state may hold, often just at the limit or at an end of the band.
 pub fn surely_allowed(generator: &mut Generator) -> Settings {
     loop {
         let settings = allowed(generator);
@@ -53,7 +53,7 @@ pub fn surely_allowed(generator: &mut Generator) -> Settings {
     }
 }
 
-/// Settings that are mostly allowed together, often just at a limit.
+/// Settings that are mostly allowed together, often just at the limit or at an end of the band.
 fn allowed(generator: &mut Generator) -> Settings {
     let mut settings = Settings::start();
     for (entry, value) in VALUES.iter().enumerate() {
@@ -61,7 +61,7 @@ fn allowed(generator: &mut Generator) -> Settings {
     }
     settings.external = generator.of_any_size(LIMIT).max(LEAST);
     let harmonic = generator.of_any_size(MOST_HARMONIC).max(1);
-    let at_limit = generator.pick(&[LIMIT, SLOW_LIMIT]) / harmonic + generator.between(0, 1);
+    let at_limit = generator.pick(&[LIMIT, BAND_LOW, BAND_HIGH]) / harmonic + generator.between(-1, 1);
     if generator.chance(30) {
         settings.external = at_limit.clamp(LEAST, LIMIT);
     }
@@ -77,8 +77,8 @@ fn allowed(generator: &mut Generator) -> Settings {
         2 => generator.between(1, most_harmonic),
         _ => harmonic.min(most_harmonic),
     };
-    let is_fast = settings.reference().detection() > SLOW_LIMIT;
-    if is_fast && settings.entries[OFLT] >= FIRST_LONG_TIME_CONSTANT && generator.chance(80) {
+    settings.range = generator.pick(&Range::ALL).at(settings.reference().detection());
+    if !settings.range.allows(settings.entries[OFLT]) && generator.chance(80) {
         settings.entries[OFLT] -= FIRST_LONG_TIME_CONSTANT;
     }
     settings

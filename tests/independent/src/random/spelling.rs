@@ -60,6 +60,7 @@ fn stepped_value(generator: &mut Generator, argument: &Argument) -> Decimal {
     value.plus(sign * offset)
 }
 
+/// A number of units: near an end, zero, a change of step or a half turn, or anywhere.
 fn base(generator: &mut Generator, argument: &Argument) -> i64 {
     let near = generator.between(-3, 3);
     let width = argument.high - argument.low;
@@ -95,6 +96,7 @@ fn any_number(generator: &mut Generator) -> String {
     }
 }
 
+/// A digit, 0 more often than others.
 fn digit(generator: &mut Generator) -> char {
     if generator.chance(30) {
         return '0';

@@ -29,6 +29,7 @@ pub fn module(generator: &mut Generator, capacity: usize) -> Module {
     module
 }
 
+/// A module in an allowed state, each part of it random.
 fn made_up(generator: &mut Generator, capacity: usize) -> Module {
     let port = generator.below(2) as u32;
     let serial = generator.between(0, MOST_SERIAL.into()) as u32;
@@ -44,6 +45,7 @@ fn made_up(generator: &mut Generator, capacity: usize) -> Module {
     module
 }
 
+/// Storage in any phase; a loop may have turned.
 fn storage(generator: &mut Generator, capacity: usize, is_one_shot: bool) -> Storage {
     let last = if is_one_shot { Phase::Done } else { Phase::Paused };
     let phase = generator.pick(&[Phase::Reset, Phase::Running, Phase::Paused, last]);
@@ -51,10 +53,12 @@ fn storage(generator: &mut Generator, capacity: usize, is_one_shot: bool) -> Sto
     Storage::in_phase(capacity, phase, generator.below(end))
 }
 
+/// Any legal point.
 fn legal_point(generator: &mut Generator) -> Point {
     Point::new(generator.bits() as i16, generator.between(0, MOST_EXPONENT.into()) as u8)
 }
 
+/// Any bits that something sets, and any enables.
 fn registers(generator: &mut Generator) -> Registers {
     let mut register = |bits: u8| Register { events: generator.bits() as u8 & bits, enables: generator.bits() as u8 };
     let [standard, lia, err] = [STANDARD_BITS, LIA_BITS, ERR_RAISABLE].map(&mut register);
@@ -72,7 +76,10 @@ fn input(generator: &mut Generator, port: Port) -> Input {
 #[cfg(test)]
 mod tests {
     use super::*;
+    use crate::frequency::Range::{self, Lower, Upper};
+    use crate::frequency::{BAND_HIGH, BAND_LOW};
 
+    /// Every phase, both references and, inside the band and outside, both ranges come up.
     #[test]
     fn states_are_allowed_and_differ() {
         let mut generator = Generator::new(5);
@@ -83,5 +90,17 @@ mod tests {
         }
         assert!(modules.iter().filter(|module| !module.settings.reference().is_internal).count() > 300);
         assert!(modules.iter().filter(|module| module.input.dropping).count() > 100);
+        for (range, is_inside, least) in
+            [(Upper, false, 300), (Upper, true, 50), (Lower, false, 300), (Lower, true, 50)]
+        {
+            let found = modules.iter().filter(|module| standing(module) == (range, is_inside)).count();
+            assert!(found > least, "{range:?} {is_inside}: {found}");
+        }
+    }
+
+    /// The range, and whether the detection frequency is inside the band.
+    fn standing(module: &Module) -> (Range, bool) {
+        let detection = module.settings.reference().detection();
+        (module.settings.range, (BAND_LOW..=BAND_HIGH).contains(&detection))
     }
 }

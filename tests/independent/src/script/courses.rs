@@ -1,21 +1,21 @@
 //! All courses at once: what any course of events can have that decides a refusal.
 //!
-//! A refusal by 3 is decided by FMOD, FREQ, HARM, the external frequency, the phase of storage and the
-//! points held. Only commands change the first three and SRAT, SEND and TSTR, so they are the same in
-//! every course that no command was refused in. The rest is kept as sets, each exactly the values that
-//! some course has:
-//! - the external frequency. After *RST it is one value. Events change it only where FMOD is 0, and
-//!   then to each value from the least frequency to the limit divided by the harmonic. The one kept
-//!   lies among these, for it is in force. So it is always one value or a range.
+//! A refusal by 3 is decided by FMOD, FREQ, HARM, the external frequency, the range, the phase of
+//! storage and the points held. Only commands change the first three and SRAT, SEND and TSTR, so they
+//! are the same in every course that no command was refused in. The rest is kept as sets, each exactly
+//! the values that some course has:
+//! - the external frequencies, for each range. Each command and event takes one range with its
+//!   frequency to another, whatever is stored.
 //! - the points held, for each phase of storage. Each command and event takes one phase with its
-//!   points to another, whatever the external frequency is.
+//!   points to another, whatever the external frequency and the range are.
 //!
 //! The time constant differs from course to course too, but no refusal depends on it, nor on whatever
 //! else a state has.
 
-use super::counts::Counts;
+use super::externals::Externals;
+use super::numbers::Numbers;
 use crate::command::Command;
-use crate::frequency::{self, Reference, LIMIT};
+use crate::frequency::{self, Range, Reference};
 #[cfg(test)]
 use crate::module::storage::Phase;
 use crate::refusal::Refusal;
@@ -25,34 +25,40 @@ const TRIGGERED_RATE: i64 = 14;
 /// What all courses have alike.
 #[derive(Clone, Debug)]
 struct Alike {
+    /// FMOD is 1: the internal frequency is in force.
     is_internal: bool,
+    /// FREQ's value, in units of 0.1 mHz.
     internal: i64,
+    /// HARM's value.
     harmonic: i64,
+    /// SRAT's value.
     rate: i64,
+    /// SEND is 0: storage ends when it is full.
     is_one_shot: bool,
+    /// TSTR is 1: a trigger starts storage.
     is_started_by_trigger: bool,
 }
 
 /// The points that can be held in each phase of storage; none where no course is in that phase.
 #[derive(Clone, Debug, PartialEq, Eq)]
 struct Points {
-    reset: Counts,
-    running: Counts,
-    paused: Counts,
-    done: Counts,
+    reset: Numbers,
+    running: Numbers,
+    paused: Numbers,
+    done: Numbers,
 }
 
+/// All courses of a script so far.
 #[derive(Clone, Debug)]
 pub struct Courses {
     capacity: usize,
     alike: Alike,
-    /// The highest external frequency; which others there are decides nothing, for every refusal
-    /// that a frequency brings is also brought by a higher one.
-    highest_external: i64,
+    externals: Externals,
     points: Points,
 }
 
 impl Courses {
+    /// All courses right after *RST.
     pub fn after_reset(capacity: usize) -> Courses {
         Courses {
             capacity,
@@ -64,7 +70,7 @@ impl Courses {
                 is_one_shot: false,
                 is_started_by_trigger: false,
             },
-            highest_external: 1_000 * frequency::HERTZ,
+            externals: Externals::after_reset(),
             points: Points::empty(),
         }
     }
@@ -72,7 +78,7 @@ impl Courses {
     /// Any finite list of events, none included.
     pub fn let_events_fall(&mut self) {
         if !self.alike.is_internal {
-            self.highest_external = LIMIT / self.alike.harmonic;
+            self.externals = Externals::measured(self.alike.harmonic);
         }
         if self.alike.is_started_by_trigger {
             let mut triggered = self.points.clone();
@@ -81,10 +87,10 @@ impl Courses {
         }
         // A running storage has an event that stores, at each rate, and it can come any number of times.
         if let Some(fewest) = self.points.running.least() {
-            let storing = Counts::range(fewest, self.capacity);
+            let storing = Numbers::span(fewest, self.capacity);
             self.points.running = if self.alike.is_one_shot { storing.up_to(self.capacity - 1) } else { storing };
             if self.alike.is_one_shot {
-                self.points.done = Counts::one(self.capacity);
+                self.points.done = Numbers::one(self.capacity);
             }
         }
     }
@@ -101,8 +107,7 @@ impl Courses {
             ("FMOD", _, &[mode]) => self.change(Alike { is_internal: mode == 1, ..self.alike.clone() }),
             ("HARM", _, &[harmonic]) => self.change(Alike { harmonic, ..self.alike.clone() }),
             ("OFLT", _, &[time_constant]) => {
-                let detection = self.reference().detection();
-                self.need(frequency::allows_time_constant(detection, time_constant))
+                self.need(Range::ALL.into_iter().all(|range| range.allows(time_constant) || !self.can_be(range)))
             }
             ("SEND", _, &[mode]) => {
                 self.need(self.points.all_reset())?;
@@ -129,11 +134,17 @@ impl Courses {
         self.highest(&self.alike)
     }
 
-    /// The fewest points that a course holds.
-    pub fn fewest_held(&self) -> usize {
-        self.points.phases().into_iter().filter_map(Counts::least).min().expect("there is a course")
+    /// Whether some course is in a range.
+    pub fn can_be(&self, range: Range) -> bool {
+        self.externals.is_met(range)
     }
 
+    /// The fewest points that a course holds.
+    pub fn fewest_held(&self) -> usize {
+        self.points.phases().into_iter().filter_map(Numbers::least).min().expect("there is a course")
+    }
+
+    /// Refuses by 3 what is not allowed.
     fn need(&self, is_allowed: bool) -> Result<(), Refusal> {
         if is_allowed {
             Ok(())
@@ -142,9 +153,11 @@ impl Courses {
         }
     }
 
-    /// Takes what decides the detection frequency, unless it is over the limit in some course.
+    /// Takes what decides the detection frequency, unless the course with the highest is then over the limit.
     fn change(&mut self, alike: Alike) -> Result<(), Refusal> {
         self.need(self.highest(&alike).is_within_limit())?;
+        let internal = Some(alike.internal).filter(|_| alike.is_internal);
+        self.externals = self.externals.settled(internal, alike.harmonic);
         self.alike = alike;
         Ok(())
     }
@@ -154,7 +167,7 @@ impl Courses {
         Reference {
             is_internal: alike.is_internal,
             internal: alike.internal,
-            external: self.highest_external,
+            external: self.externals.highest(),
             harmonic: alike.harmonic,
         }
     }
@@ -172,6 +185,7 @@ impl Courses {
         self.points = points;
     }
 
+    /// What a trigger makes of these points.
     fn trigger(&self, points: &mut Points) {
         if self.alike.is_started_by_trigger {
             points.run();
@@ -181,32 +195,42 @@ impl Courses {
         }
     }
 
+    /// Whether some course is in a range with an external frequency.
+    #[cfg(test)]
+    pub fn can_have(&self, range: Range, external: i64) -> bool {
+        self.externals.contains(range, external)
+    }
+
     /// Whether some course is in a phase with `held` points.
     #[cfg(test)]
     pub fn can_hold(&self, phase: Phase, held: usize) -> bool {
-        let counts = match phase {
+        let numbers = match phase {
             Phase::Reset => &self.points.reset,
             Phase::Running => &self.points.running,
             Phase::Paused => &self.points.paused,
             Phase::Done => &self.points.done,
         };
-        counts.contains(held)
+        numbers.contains(held)
     }
 }
 
 impl Points {
+    /// Those where storage is reset in every course.
     fn empty() -> Points {
-        Points { reset: Counts::one(0), running: Counts::none(), paused: Counts::none(), done: Counts::none() }
+        Points { reset: Numbers::one(0), running: Numbers::none(), paused: Numbers::none(), done: Numbers::none() }
     }
 
-    fn phases(&self) -> [&Counts; 4] {
+    /// The points of each phase.
+    fn phases(&self) -> [&Numbers; 4] {
         [&self.reset, &self.running, &self.paused, &self.done]
     }
 
+    /// Whether storage is reset in every course.
     fn all_reset(&self) -> bool {
-        [&self.running, &self.paused, &self.done].into_iter().all(Counts::is_empty)
+        [&self.running, &self.paused, &self.done].into_iter().all(Numbers::is_empty)
     }
 
+    /// The points of these courses and of others.
     fn or(&self, other: &Points) -> Points {
         Points {
             reset: self.reset.or(&other.reset),
@@ -216,15 +240,17 @@ impl Points {
         }
     }
 
+    /// Storage starts where it is reset or paused.
     fn run(&mut self) {
         self.running = self.running.or(&self.reset).or(&self.paused);
-        self.reset = Counts::none();
-        self.paused = Counts::none();
+        self.reset = Numbers::none();
+        self.paused = Numbers::none();
     }
 
+    /// Storage pauses where it is running.
     fn pause(&mut self) {
         self.paused = self.paused.or(&self.running);
-        self.running = Counts::none();
+        self.running = Numbers::none();
     }
 
     /// A point more where storage is running.
@@ -233,11 +259,11 @@ impl Points {
         let fills = more.contains(capacity) || more.contains(capacity + 1);
         self.running = more.up_to(capacity);
         if fills {
-            self.running = self.running.or(&Counts::one(capacity));
+            self.running = self.running.or(&Numbers::one(capacity));
         }
         if is_one_shot && fills {
             self.running = self.running.up_to(capacity - 1);
-            self.done = Counts::one(capacity);
+            self.done = Numbers::one(capacity);
         }
     }
 }

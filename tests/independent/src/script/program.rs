@@ -37,10 +37,12 @@ mod tests {
     use super::*;
     use crate::script::text;
 
+    /// What the program writes for an input.
     fn said(input: &[u8]) -> String {
         text(&verdict(input))
     }
 
+    /// First lines that name a capacity, and others.
     #[test]
     fn first_lines() {
         for (first, expected) in [
@@ -67,6 +69,7 @@ mod tests {
         assert_eq!(said(["9".repeat(100_000).as_bytes(), b"\n*RST"].concat().as_slice()), "no 0 0 9");
     }
 
+    /// Inputs that end within or right after their first line.
     #[test]
     fn without_a_script() {
         for (input, expected) in [("", "no 0 0 9"), ("4", "no 1 1 7"), ("4\n", "no 1 1 7"), ("*RST", "no 0 0 9")] {
@@ -74,6 +77,7 @@ mod tests {
         }
     }
 
+    /// A script of the most bytes, and one that is longer, which 8 refuses after 9.
     #[test]
     fn most_bytes() {
         let input = |capacity: &str, bytes: usize| [capacity, "\n*RST", &"\n".repeat(bytes - 4)].concat();

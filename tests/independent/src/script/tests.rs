@@ -1,7 +1,7 @@
 //! Tests of the check: document 01's examples, and a search through courses of the module itself.
 
 use super::*;
-use crate::frequency::{LEAST, LIMIT, SLOW_LIMIT};
+use crate::frequency::{beside_band, Range, LEAST, LIMIT};
 use crate::module::status::Registers;
 use crate::module::storage::Phase;
 use crate::module::Module;
@@ -9,10 +9,12 @@ use crate::random::generator::Generator;
 use crate::random::scripts;
 use crate::setting::HARM;
 
+/// What the check says of a script.
 fn said(capacity: usize, script: &str) -> String {
     text(&check(capacity, script.as_bytes()))
 }
 
+/// Scripts that pass, and others that 3 or 7 refuses.
 #[test]
 fn worked_examples() {
     let script = "*RST;FREQ 100;HARM 2\nOFLT 14\nHARM 3\nFMOD 0\nOFLT 19\n";
@@ -22,6 +24,28 @@ fn worked_examples() {
     assert_eq!(said(1, script), "no 2 1 3");
     assert_eq!(said(1, "*RST"), "ok");
     assert_eq!(said(1, ""), "no 1 1 7");
+}
+
+/// Time constants inside the band, by what came before.
+#[test]
+fn the_range_of_every_course_decides() {
+    for (script, expected) in [
+        ("*RST;FREQ 1;FMOD 0\nFMOD 1;FREQ 200;OFLT 14", "ok"),
+        ("*RST;FREQ 100;FREQ 200;FMOD 0\nFMOD 1;OFLT 14", "no 2 2 3"),
+        ("*RST;FREQ 100;FREQ 200;FMOD 0;FMOD 1;OFLT 14", "no 1 6 3"),
+        ("*RST;FREQ 100;FREQ 200;OFLT 14\nFREQ 203.12;OFLT 19\nFREQ 203.13\nFREQ 200;OFLT 14", "no 4 2 3"),
+        ("*RST;HARM 2;FREQ 100;OFLT 14", "no 1 4 3"),
+        ("*RST;FREQ 100.01;HARM 2;OFLT 14", "ok"),
+        ("*RST;FREQ 199.2;OFLT 14", "ok"),
+        ("*RST;FREQ 199.21;OFLT 14", "no 1 3 3"),
+        ("*RST;FREQ 203.13;OFLT 14", "no 1 3 3"),
+        ("*RST;FREQ 199.2;FREQ 203.12;OFLT 14", "ok"),
+        ("*RST;FREQ 199.2;FREQ 203.13;OFLT 14", "no 1 4 3"),
+        ("*RST;FREQ 1;OFLT 14;*RST;FREQ 200;OFLT 14", "no 1 6 3"),
+        ("*RST;FREQ 1;FMOD 0;FMOD 1\nFREQ 200;OFLT 14", "ok"),
+    ] {
+        assert_eq!(said(4, script), expected, "{script:?}");
+    }
 }
 
 #[test]
@@ -74,11 +98,13 @@ fn events_fall_between_lines_and_not_inside() {
 /// The courses that a search reaches, and the check's view of them, line after line.
 struct Search {
     capacity: usize,
+    /// One module for each course.
     modules: Vec<Module>,
     walk: Walk,
 }
 
 impl Search {
+    /// A fresh module, and a check at the beginning of a script.
     fn new(capacity: usize) -> Search {
         let modules = vec![Module::start(1, 1, [capacity; 2]).unwrap()];
         Search { capacity, modules, walk: Walk::new(capacity) }
@@ -97,10 +123,14 @@ impl Search {
         [found, checked]
     }
 
-    /// Whether the check's sets, once there are any, hold exactly the phases and points that the search has.
+    /// Whether the check's sets, once there are any, are those that the search has.
     fn sets_agree(&self) -> bool {
+        self.walk.courses().is_none_or(|courses| self.points_agree(courses) && self.ranges_agree(courses))
+    }
+
+    /// Whether the sets hold exactly the phases and points that the search has.
+    fn points_agree(&self, courses: &Courses) -> bool {
         let phases = [Phase::Reset, Phase::Running, Phase::Paused, Phase::Done];
-        let Some(courses) = self.walk.courses() else { return true };
         phases.into_iter().all(|phase| {
             (0..=self.capacity).all(|held| {
                 let has = |module: &Module| module.phase() == phase && module.storage.held() == held;
@@ -108,27 +138,37 @@ impl Search {
             })
         })
     }
+
+    /// Whether the sets hold exactly the ranges, and each external frequency, that the search has, and none higher.
+    fn ranges_agree(&self, courses: &Courses) -> bool {
+        let settings = || self.modules.iter().map(|module| &module.settings);
+        Range::ALL.into_iter().all(|range| courses.can_be(range) == settings().any(|found| found.range == range))
+            && settings().all(|found| courses.can_have(found.range, found.external))
+            && settings().map(|found| found.external).max() == Some(courses.reference().external)
+    }
 }
 
+/// The module after each event that can matter: a tick, a trigger, frequencies at the ends and beside the band.
+fn after_events(module: &Module) -> Vec<Module> {
+    let harmonic = module.settings.entries[HARM];
+    let frequencies = [&[LEAST][..], &beside_band(harmonic), &[LIMIT / harmonic]].concat();
+    let with = |event: &dyn Fn(&mut Module)| {
+        let mut after = module.clone();
+        event(&mut after);
+        after
+    };
+    let mut after = vec![with(&Module::tick_event), with(&Module::trigger_event)];
+    if !module.settings.reference().is_internal {
+        after.extend(frequencies.into_iter().map(|frequency| with(&|module| module.measured(frequency as u32))));
+    }
+    after
+}
+
+/// All modules that events lead to from some.
 fn close_under_events(modules: &mut Vec<Module>) {
     let mut at = 0;
     while at < modules.len() {
-        let harmonic = modules[at].settings.entries[HARM];
-        let frequencies = [LEAST, SLOW_LIMIT / harmonic, SLOW_LIMIT / harmonic + 1, LIMIT / harmonic];
-        let mut after: Vec<Module> = frequencies
-            .iter()
-            .map(|&frequency| {
-                let mut module = modules[at].clone();
-                module.measured(frequency as u32);
-                module
-            })
-            .collect();
-        let mut ticked = modules[at].clone();
-        ticked.tick_event();
-        let mut triggered = modules[at].clone();
-        triggered.trigger_event();
-        after.extend([ticked, triggered]);
-        for mut module in after {
+        for mut module in after_events(&modules[at]) {
             module.registers = Registers::start();
             module.storage.forget_turns();
             if !modules.contains(&module) {

@@ -1,8 +1,8 @@
 //! The state altered field by field, to values just inside and just outside what a state may hold, from
 //! several states; and after each alteration every call.
 
-use super::{alter, line, start};
-use crate::frequency::{HERTZ, LEAST, LIMIT, SLOW_LIMIT};
+use super::{alter, line, ranged, start};
+use crate::frequency::{beside_band, Range, BAND_HIGH, BAND_LOW, HERTZ, LEAST, LIMIT};
 use crate::module::storage::Phase;
 use crate::ops::field::{self, Field, Place, Value, FIELDS};
 use crate::ops::Operation;
@@ -75,7 +75,9 @@ fn states() -> Vec<Vec<Operation>> {
         stored(Phase::Paused, 4, 1),
         [vec![setting(SEND, 0)], stored(Phase::Done, 4, 0)].concat(),
         vec![setting(FMOD, 0), number(Place::External, LIMIT / 2), setting(HARM, 2)],
-        vec![setting(FREQ, 100 * HERTZ), setting(HARM, 2), setting(OFLT, 14)],
+        vec![setting(FREQ, 100 * HERTZ), setting(HARM, 2), setting(OFLT, 14), ranged(Range::Lower)],
+        vec![setting(FREQ, BAND_LOW)],
+        vec![setting(FMOD, 0), number(Place::External, LEAST), ranged(Range::Lower)],
     ]
 }
 
@@ -91,12 +93,14 @@ fn edges(field: &Field) -> Vec<Value> {
             return words.map(Value::Word).to_vec();
         }
         Place::Queue => return queues().into_iter().map(Value::Bytes).collect(),
+        Place::Range => return Range::ALL.map(Value::Range).to_vec(),
         Place::Serial => vec![1, 42, 99_999, 100_000],
         Place::Port => vec![1, 2, 3, 128],
         Place::Capacity => vec![1, 3, 4, 5, 16_383, 16_384, 65_540],
         Place::Entry(entry) => entry_edges(entry),
         Place::External => {
-            vec![LEAST - 1, LEAST, SLOW_LIMIT, SLOW_LIMIT + 1, LIMIT / 2, LIMIT / 2 + 1, LIMIT, LIMIT + 1]
+            let ends = [LEAST - 1, LEAST, LIMIT / 2, LIMIT / 2 + 1, LIMIT, LIMIT + 1];
+            [&ends[..], &beside_band(1), &beside_band(2)].concat()
         }
         Place::Held | Place::Next => vec![1, 2, 3, 4, 5, 65_536],
         Place::Events(_) | Place::Enables(_) => (0..8).map(|bit| 1 << bit).collect(),
@@ -106,12 +110,17 @@ fn edges(field: &Field) -> Vec<Value> {
     numbers.into_iter().filter(|number| (low..=high).contains(number)).map(Value::Number).collect()
 }
 
+/// Values of a setting at and beside its ends, and at what several settings decide together.
 fn entry_edges(entry: usize) -> Vec<i64> {
     let value = &VALUES[entry];
     let (low, high) = (value.kept_low, value.kept_high);
     let mut numbers = vec![low - 1, low, low + 1, high - 1, high, high + 1, value.start];
     numbers.extend(match entry {
-        FREQ => vec![99_999, 100_001, 100_010, 999_995, 1_000_100, SLOW_LIMIT, SLOW_LIMIT + 100, 12_345_678, LIMIT / 2],
+        FREQ => {
+            let steps = [99_999, 100_001, 100_010, 999_995, 1_000_100, 12_345_678, LIMIT / 2];
+            let band = [BAND_LOW - 100, BAND_LOW, BAND_HIGH, BAND_HIGH + 100, BAND_HIGH / 2, BAND_HIGH / 2 + 100];
+            [&steps[..], &band].concat()
+        }
         HARM => vec![2, 3, 102, 103, 204, 205],
         OFLT => vec![13, 14],
         SLVL => vec![999, 1_001, 1_002],

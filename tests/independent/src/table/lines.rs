@@ -2,6 +2,7 @@
 
 use crate::command::{names, MOST_LINE_BYTES};
 
+/// All worked lines.
 pub fn lines() -> Vec<Vec<u8>> {
     let mut lines = Vec::new();
     for texts in [EXAMPLES, ORDER_AND_FORM, UNKNOWN_NAMES, SPACES_AND_CASE, PLACES] {

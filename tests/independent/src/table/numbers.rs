@@ -6,6 +6,7 @@ use crate::decimal::Decimal;
 use crate::frequency;
 use crate::number::MOST_DIGITS;
 
+/// All lines of worked numbers.
 pub fn lines() -> Vec<Vec<u8>> {
     let mut texts = Vec::new();
     for form in FORMS.iter() {
@@ -53,6 +54,7 @@ fn around_ends(argument: &Argument) -> Vec<String> {
     }
 }
 
+/// The ends of a whole-number range, whole numbers and fractions just beside them, and a half.
 fn around_whole_ends(argument: &Argument) -> Vec<String> {
     let mut texts = Vec::new();
     for (end, outwards) in [(argument.low, -1), (argument.high, 1)] {
@@ -65,6 +67,7 @@ fn around_whole_ends(argument: &Argument) -> Vec<String> {
     texts
 }
 
+/// The ends of a rounded range, and values just beside them with more and more places.
 fn around_stepped_ends(argument: &Argument) -> Vec<String> {
     let mut texts = Vec::new();
     for end in [argument.low, argument.high] {

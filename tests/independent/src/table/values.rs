@@ -1,7 +1,7 @@
-//! Worked values other than lines: replies, allowed settings, frequencies, crossings, points.
+//! Worked values other than lines: replies, allowed settings, frequencies, the band, points.
 
-use super::{alter, line, start, with_points};
-use crate::frequency::{HERTZ, LEAST, LIMIT, SLOW_LIMIT};
+use super::{alter, line, ranged, start, with_points};
+use crate::frequency::{beside_band, Range, BAND_HIGH, BAND_LOW, HERTZ, LEAST, LIMIT};
 use crate::ops::field::{Place, Value};
 use crate::ops::Operation;
 use crate::point::Point;
@@ -16,10 +16,12 @@ const AUXV: usize = 27;
 /// The largest frequency tried.
 const MOST_FREQUENCY: i64 = 2_000_000_000;
 
+/// All of them.
 pub fn operations() -> Vec<Operation> {
-    [replies(), single_settings(), combined_settings(), detections(), crossings(), points()].concat()
+    [replies(), single_settings(), combined_settings(), detections(), band(), points()].concat()
 }
 
+/// Another value in an entry.
 fn setting(entry: usize, units: i64) -> Operation {
     alter(Place::Entry(entry), Value::Number(units))
 }
@@ -53,23 +55,71 @@ fn replies() -> Vec<Operation> {
     replies
 }
 
-/// Nothing where the entry does not hold the number.
+/// The reply of an entry, in the range that its value leads to; nothing where it does not hold the number.
 fn reply(entry: usize, units: i64) -> Vec<Operation> {
     let (low, high) = crate::ops::field::entry(entry).ends();
-    match (low..=high).contains(&units) {
-        true => vec![start(1), setting(entry, units), line(&query(entry)), Operation::Poll],
-        false => Vec::new(),
+    if !(low..=high).contains(&units) {
+        return Vec::new();
     }
+    let mut settings = Settings::start();
+    settings.entries[entry] = units;
+    let range = settings.range.at(settings.reference().detection());
+    vec![start(1), setting(entry, units), ranged(range), line(&query(entry)), Operation::Poll]
 }
 
-/// The start settings with some entries changed.
+/// The start settings with some entries changed, in each range.
 fn changed(changes: &[(usize, i64)], external: i64) -> Vec<Operation> {
-    let mut operations = vec![start(1)];
-    operations.extend(changes.iter().map(|&(entry, units)| setting(entry, units)));
-    operations.push(alter(Place::External, Value::Number(external)));
-    operations.extend([line("FREQ?"), Operation::Poll, Operation::Dump]);
+    let mut operations = Vec::new();
+    for range in Range::ALL {
+        operations.push(start(1));
+        operations.extend(changes.iter().map(|&(entry, units)| setting(entry, units)));
+        operations.extend([alter(Place::External, Value::Number(external)), ranged(range)]);
+        operations.extend([line("FREQ?"), Operation::Poll, Operation::Dump]);
+    }
     operations
 }
+
+/// Values of single settings at and beside their steps and limits.
+const SINGLE_VALUES: &[(usize, i64)] = &[
+    (SLVL, 5),
+    (SLVL, 6),
+    (SLVL, 999),
+    (SLVL, 1_001),
+    (SLVL, 1_002),
+    (SLVL, 4_999),
+    (SLVL, 5_002),
+    (FREQ, 0),
+    (FREQ, 11),
+    (FREQ, 99_999),
+    (FREQ, 100_000),
+    (FREQ, 100_001),
+    (FREQ, 100_010),
+    (FREQ, 999_990),
+    (FREQ, 999_999),
+    (FREQ, 1_000_010),
+    (FREQ, 1_000_100),
+    (FREQ, 9_999_900),
+    (FREQ, 9_999_990),
+    (FREQ, 10_000_100),
+    (FREQ, 10_001_000),
+    (FREQ, 12_345_678),
+    (FREQ, 12_346_000),
+    (FREQ, 99_999_000),
+    (FREQ, 99_999_900),
+    (FREQ, 100_001_000),
+    (FREQ, 100_010_000),
+    (FREQ, 999_990_000),
+    (FREQ, 999_999_000),
+    (FREQ, 1_000_000_000),
+    (FREQ, 1_000_010_000),
+    (FREQ, 1_000_100_000),
+    (FREQ, MOST_FREQUENCY),
+    (FMOD, 2),
+    (HARM, 102),
+    (HARM, 103),
+    (OFLT, 13),
+    (OFLT, 14),
+];
 
 /// The start settings, with each setting in turn at, beside and off the ends of what is kept.
 fn single_settings() -> Vec<Operation> {
@@ -80,46 +130,7 @@ fn single_settings() -> Vec<Operation> {
             operations.extend(changed(&[(entry, units)], start.external));
         }
     }
-    for (entry, units) in [
-        (SLVL, 5),
-        (SLVL, 6),
-        (SLVL, 999),
-        (SLVL, 1_001),
-        (SLVL, 1_002),
-        (SLVL, 4_999),
-        (SLVL, 5_002),
-        (FREQ, 0),
-        (FREQ, 11),
-        (FREQ, 99_999),
-        (FREQ, 100_000),
-        (FREQ, 100_001),
-        (FREQ, 100_010),
-        (FREQ, 999_990),
-        (FREQ, 999_999),
-        (FREQ, 1_000_010),
-        (FREQ, 1_000_100),
-        (FREQ, 9_999_900),
-        (FREQ, 9_999_990),
-        (FREQ, 10_000_100),
-        (FREQ, 10_001_000),
-        (FREQ, 12_345_678),
-        (FREQ, 12_346_000),
-        (FREQ, 99_999_000),
-        (FREQ, 99_999_900),
-        (FREQ, 100_001_000),
-        (FREQ, 100_010_000),
-        (FREQ, 999_990_000),
-        (FREQ, 999_999_000),
-        (FREQ, 1_000_000_000),
-        (FREQ, 1_000_010_000),
-        (FREQ, 1_000_100_000),
-        (FREQ, MOST_FREQUENCY),
-        (FMOD, 2),
-        (HARM, 102),
-        (HARM, 103),
-        (OFLT, 13),
-        (OFLT, 14),
-    ] {
+    for &(entry, units) in SINGLE_VALUES {
         operations.extend(changed(&[(entry, units)], start.external));
     }
     for external in [0, LEAST - 1, LEAST, LEAST + 1, LIMIT - 1, LIMIT, LIMIT + 1, MOST_FREQUENCY] {
@@ -130,7 +141,7 @@ fn single_settings() -> Vec<Operation> {
     operations
 }
 
-/// Settings that meet or break the 102 kHz limit and the 200 Hz rule together.
+/// Settings that meet or break the 102 kHz limit, and the ranges and time constants at the band.
 fn combined_settings() -> Vec<Operation> {
     let free = 1_000 * HERTZ;
     let mut operations = Vec::new();
@@ -168,37 +179,50 @@ fn combined_settings() -> Vec<Operation> {
     ] {
         operations.extend(changed(&[(HARM, harmonic), (FMOD, 0)], external));
     }
-    // The frequency that is not in force is free of the limit, but not of its range and step.
-    operations.extend(changed(&[(HARM, 102)], LIMIT));
+    [operations, free_settings(), band_settings()].concat()
+}
+
+/// The frequency that is not in force is free of the limit, but not of its own ends and step.
+fn free_settings() -> Vec<Operation> {
+    let free = 1_000 * HERTZ;
+    let mut operations = changed(&[(HARM, 102)], LIMIT);
     operations.extend(changed(&[(HARM, 102), (FMOD, 0), (FREQ, LIMIT)], free));
     operations.extend(changed(&[(FMOD, 0), (FREQ, 12_345_678)], free));
     operations.extend(changed(&[(FMOD, 0), (FREQ, LIMIT + 100_000)], free));
     operations.extend(changed(&[(FMOD, 0), (FREQ, LEAST - 1)], free));
-    // Time constants at 200 Hz and one step or unit above.
+    operations
+}
+
+/// Time constants inside the band, at its ends, and one step or unit outside.
+fn band_settings() -> Vec<Operation> {
+    let free = 1_000 * HERTZ;
+    let mut operations = Vec::new();
     for time_constant in [13, 14, 19] {
         for (harmonic, frequency) in [
-            (1, SLOW_LIMIT),
-            (1, SLOW_LIMIT + 100),
-            (2, SLOW_LIMIT / 2),
-            (2, SLOW_LIMIT / 2 + 100),
+            (1, BAND_LOW - 100),
+            (1, BAND_LOW),
+            (1, 200 * HERTZ),
+            (1, BAND_HIGH),
+            (1, BAND_HIGH + 100),
+            (2, BAND_LOW / 2 - 10),
+            (2, BAND_LOW / 2),
+            (2, BAND_HIGH / 2),
+            (2, BAND_HIGH / 2 + 100),
+            (199, HERTZ),
             (200, HERTZ),
-            (200, HERTZ + 1),
-            (201, HERTZ),
+            (203, HERTZ),
+            (204, HERTZ),
+            (19_999, 99),
             (19_999, 100),
             (19_999, 101),
+            (19_999, 102),
         ] {
             operations.extend(changed(&[(OFLT, time_constant), (HARM, harmonic), (FREQ, frequency)], free));
         }
-        for (harmonic, external) in [
-            (1, SLOW_LIMIT - 1),
-            (1, SLOW_LIMIT),
-            (1, SLOW_LIMIT + 1),
-            (2, SLOW_LIMIT / 2),
-            (2, SLOW_LIMIT / 2 + 1),
-            (3, SLOW_LIMIT / 3),
-            (3, SLOW_LIMIT / 3 + 1),
-        ] {
-            operations.extend(changed(&[(OFLT, time_constant), (HARM, harmonic), (FMOD, 0)], external));
+        for harmonic in [1, 2, 3, 7, 19_999] {
+            for external in beside_band(harmonic) {
+                operations.extend(changed(&[(OFLT, time_constant), (HARM, harmonic), (FMOD, 0)], external));
+            }
         }
         operations.extend(changed(&[(OFLT, time_constant), (FREQ, LEAST), (FMOD, 0)], free));
     }
@@ -233,29 +257,60 @@ fn detections() -> Vec<Operation> {
     operations
 }
 
-/// A measured frequency, and FREQ and HARM, that cross 200 Hz or do not, at each time constant.
-fn crossings() -> Vec<Operation> {
+/// Measured frequencies, and FREQ and HARM, that come above the band, below it or inside it, from each range.
+fn band() -> Vec<Operation> {
     let mut operations = Vec::new();
-    let around = [LEAST, SLOW_LIMIT - 100, SLOW_LIMIT, SLOW_LIMIT + 100, LIMIT];
-    for old in around {
-        for new in around {
-            for time_constant in [13, 14] {
-                operations.extend([start(1), setting(FMOD, 0), alter(Place::External, Value::Number(old))]);
-                operations.extend([setting(OFLT, time_constant), Operation::Measured(new as u32), Operation::Dump]);
-                operations.extend([start(1), setting(FREQ, old), setting(OFLT, time_constant)]);
-                let command = format!("FREQ {}.{:04}", new / HERTZ, new % HERTZ);
-                operations.extend([line(&command), Operation::Dump]);
-            }
+    for range in Range::ALL {
+        for time_constant in [13, 14] {
+            operations.extend(measured_pairs(range, time_constant));
+            operations.extend(set_pairs(range, time_constant));
+        }
+        for time_constant in 0..=20 {
+            operations.extend(steps_through(range, time_constant));
         }
     }
-    for time_constant in 0..=20 {
-        operations.extend([start(1), setting(FREQ, SLOW_LIMIT / 2), setting(HARM, 2), setting(OFLT, time_constant)]);
-        operations.extend([line("HARM 3"), line("HARM 4"), line("HARM 2"), Operation::Dump]);
-        operations.extend([start(1), setting(FMOD, 0), alter(Place::External, Value::Number(SLOW_LIMIT))]);
-        let beside =
-            [SLOW_LIMIT + 1, SLOW_LIMIT, SLOW_LIMIT - 1].map(|frequency| Operation::Measured(frequency as u32));
-        operations.push(setting(OFLT, time_constant));
-        operations.extend(beside.into_iter().flat_map(|measured| [measured, Operation::Dump]));
+    operations
+}
+
+/// Each measured frequency beside the band after each other one.
+fn measured_pairs(range: Range, time_constant: i64) -> Vec<Operation> {
+    let around = [&[LEAST][..], &beside_band(1), &[LIMIT]].concat();
+    let mut operations = Vec::new();
+    for &old in &around {
+        for &new in &around {
+            operations.extend([start(1), setting(FMOD, 0), alter(Place::External, Value::Number(old)), ranged(range)]);
+            operations.extend([setting(OFLT, time_constant), Operation::Measured(new as u32), Operation::Dump]);
+        }
+    }
+    operations
+}
+
+/// Each internal frequency beside the band after each other one.
+fn set_pairs(range: Range, time_constant: i64) -> Vec<Operation> {
+    let around = [LEAST, BAND_LOW - 100, BAND_LOW, BAND_HIGH, BAND_HIGH + 100, LIMIT];
+    let mut operations = Vec::new();
+    for old in around {
+        for new in around {
+            operations.extend([start(1), setting(FREQ, old), ranged(range), setting(OFLT, time_constant)]);
+            let command = format!("FREQ {}.{:04}", new / HERTZ, new % HERTZ);
+            operations.extend([line(&command), Operation::Dump]);
+        }
+    }
+    operations
+}
+
+/// Harmonics and measured frequencies that lead from inside the band out of it and back, shown one by one.
+fn steps_through(range: Range, time_constant: i64) -> Vec<Operation> {
+    let standing = [ranged(range), setting(OFLT, time_constant)];
+    let mut operations = vec![start(1), setting(FREQ, 100 * HERTZ), setting(HARM, 2)];
+    operations.extend(standing.clone());
+    for command in ["HARM 3", "HARM 2", "HARM 1", "HARM 2", "HARM 3"] {
+        operations.extend([line(command), Operation::Dump]);
+    }
+    operations.extend([start(1), setting(FMOD, 0), alter(Place::External, Value::Number(BAND_HIGH))]);
+    operations.extend(standing);
+    for frequency in [BAND_HIGH + 1, BAND_HIGH, BAND_LOW, BAND_LOW - 1, BAND_LOW, BAND_HIGH, BAND_HIGH + 1] {
+        operations.extend([Operation::Measured(frequency as u32), Operation::Dump]);
     }
     operations
 }

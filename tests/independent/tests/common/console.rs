@@ -34,7 +34,9 @@ pub fn build(source: &str, program: &Path) {
 
 /// The console of `examples/console.c`, and the files that it reads.
 pub struct Console {
+    /// The folder that it is run in.
     pub scratch: Scratch,
+    /// The path of the built console.
     program: PathBuf,
     /// How many runs have been as expected.
     pub runs: usize,

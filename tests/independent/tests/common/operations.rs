@@ -5,8 +5,7 @@ use super::scratch::Scratch;
 use super::{counts, ops};
 use independent::ops::compare::{first_difference, lines, report};
 use independent::ops::met::{met, Met, ALTER, CALLS};
-use independent::ops::runs;
-use independent::ops::Operation;
+use independent::ops::{band, runs, Operation};
 use std::path::Path;
 
 /// The seconds in which a short stream that shows a difference is looked for.
@@ -15,11 +14,14 @@ const SECONDS_TO_SHRINK: u32 = 120;
 /// What has agreed so far.
 #[derive(Default)]
 pub struct Agreed {
+    /// How many answers are the same.
     pub answers: usize,
     /// The alterations, and the calls refused by 11.
     pub met: Met,
     /// The runs of each kind.
     pub runs: runs::Counts,
+    /// The calls of each kind that meet the band.
+    pub band: band::Counts,
 }
 
 impl Agreed {
@@ -29,7 +31,8 @@ impl Agreed {
         for (call, times) in other.met {
             *self.met.entry(call).or_default() += times;
         }
-        for (count, more) in self.runs.iter_mut().zip(other.runs) {
+        let counts = self.runs.iter_mut().chain(&mut self.band);
+        for (count, more) in counts.zip(other.runs.into_iter().chain(other.band)) {
             *count += more;
         }
         self
@@ -48,6 +51,14 @@ impl Agreed {
     pub fn say_runs(&self) {
         for (count, words) in runs::with_words(self.runs) {
             assert!(count > 0, "of the runs none {words}");
+            counts::say(count, words);
+        }
+    }
+
+    /// Fails the test where some way to meet the band did not come up, and prints how many calls there are of each.
+    pub fn say_band(&self) {
+        for (count, words) in band::with_words(self.band) {
+            assert!(count > 0, "of the calls none {words}");
             counts::say(count, words);
         }
     }
@@ -81,7 +92,8 @@ pub fn compare_and_give(title: &str, operations: &[u8]) -> (Agreed, Vec<u8>) {
     assert_ended_well(title, &program, &output);
     let met = met(&asked, &given);
     let runs = runs::counts(&asked, &given);
-    (Agreed { answers, met, runs }, output.stdout)
+    let band = band::counts(&asked);
+    (Agreed { answers, met, runs, band }, output.stdout)
 }
 
 /// A short stream of operations that a program answers differently, and both answers to its last one.

@@ -15,6 +15,7 @@ pub const SMALL_STACK_KIB: u32 = 128;
 /// What a program may take.
 #[derive(Clone, Copy)]
 pub struct Limits {
+    /// The seconds after which it is stopped.
     pub seconds: u32,
     /// The stack in KiB; nothing for the usual one.
     pub stack_kib: Option<u32>,

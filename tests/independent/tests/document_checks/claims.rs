@@ -12,6 +12,7 @@ struct Row {
     clause: Clause,
     definitions: Vec<InFile>,
     theorems: Vec<InFile>,
+    /// The wrong programs.
     edits: Vec<String>,
 }
 

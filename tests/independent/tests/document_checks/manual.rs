@@ -28,7 +28,9 @@ impl Clause {
 /// A line of the manual that has a number.
 #[derive(Clone, Copy, Debug, PartialEq, Eq)]
 enum Numbered {
+    /// The heading of a section.
     Section(usize),
+    /// The first line of a clause.
     Clause(Clause),
 }
 

@@ -1,5 +1,5 @@
--- `ops_session::dump::write_fields` is safe and ends: it goes through the 52 fields; the buffer keeps its length, the
--- place stays within the names. Assumes nothing.
+-- `ops_session::dump::write_fields` is safe and ends: it goes through the 52 fields before the traces; the buffer keeps
+-- its length, the place stays within the names. Assumes nothing.
 use Prim.Native.Nat.{_≤_, _-_}
 use mathlib.Core.Path.{_≡_}
 use lib.ListN.{length}
@@ -9,7 +9,7 @@ use Rattle.ops_session.proofs.dump.write_fields.Tie as tie
 
 abbrev Inv-loop : tie.InvT-loop
 Inv-loop out₀ at m names end₀ start₀ field₀ out end start field =
-    (length out ≡ length out₀) × (start ≤ 298) × (field ≤ 52)
+    (length out ≡ length out₀) × (start ≤ 304) × (field ≤ 52)
 
 abbrev μ-loop : tie.MeasureT-loop
 μ-loop out₀ at m names end₀ start₀ field₀ out end start field = 52 - field

@@ -10,6 +10,7 @@ struct Desk {
 }
 
 impl Desk {
+    /// A module of a capacity on a port.
     fn new(port: u32, capacity: usize) -> Desk {
         let mut session = Session::new();
         let start = format!("start 42 {port} {capacity} {capacity}");
@@ -22,6 +23,7 @@ impl Desk {
         Desk::new(1, 8)
     }
 
+    /// The answer to an operation.
     fn does(&mut self, operation: &str) -> String {
         self.session.answer(operation.as_bytes()).unwrap()
     }
@@ -31,6 +33,7 @@ impl Desk {
         self.says_with(line, 2_000)
     }
 
+    /// The same of a line with this room.
     fn says_with(&mut self, line: &str, room: usize) -> String {
         let answer = self.session.module.line(line.as_bytes(), room);
         text_of(&answer)
@@ -42,6 +45,7 @@ impl Desk {
         answers.filter(|text| text != "0 0 0 ").collect()
     }
 
+    /// What `dump` writes of a field.
     fn field(&mut self, name: &str) -> String {
         let dump = self.does("dump");
         let start = format!("{name}=");
@@ -49,11 +53,13 @@ impl Desk {
     }
 }
 
+/// Refusal, place, length and what was written.
 fn text_of(answer: &Answer) -> String {
     let written: String = answer.written.iter().map(|&byte| char::from(byte)).collect();
     format!("{} {} {} {written}", number(answer.refusal), answer.place, answer.length)
 }
 
+/// Lines on either side of what decides, each on a module of its own.
 #[test]
 fn examples_on_both_sides() {
     for (line, expected) in [
@@ -66,7 +72,8 @@ fn examples_on_both_sides() {
         ("HARM 103", "3 1 0 "),
         ("HARM 5.4", "2 1 0 "),
         ("FREQ 100;HARM 2;OFLT 14;OFLT?", "0 0 3 14\n"),
-        ("FREQ 100.01;HARM 2;OFLT 14;OFLT?", "3 3 2 8\n"),
+        ("FREQ 100.01;HARM 2;OFLT 14;OFLT?", "0 0 3 14\n"),
+        ("HARM 2;FREQ 100;OFLT 14;OFLT?", "3 3 2 8\n"),
         ("SLVL 1.001;SLVL?", "0 0 6 1.002\n"),
         ("PHAS 541;PHAS?", "0 0 8 -179.00\n"),
         ("*IDN?", "0 0 28 LOCKIN,M1,s/n00042,ver1.000\n"),
@@ -168,19 +175,90 @@ fn frequency_in_force_and_its_limits() {
     }
 }
 
+/// FREQ at the last step inside the band and the first outside, from both ranges.
 #[test]
-fn crossings_of_200_hz() {
+fn both_ends_of_the_band_keep_the_range() {
+    let mut desk = Desk::new(1, 4);
+    assert_eq!(desk.says("FREQ 203.12;OFLT 14;LIAS?"), "3 2 2 0\n");
+    assert_eq!(desk.says("FREQ 199.21;OFLT 14;LIAS?"), "3 2 2 0\n");
+    assert_eq!(desk.field("range"), "upper");
+    assert_eq!(desk.says("FREQ 199.2;LIAS?;OFLT 19"), "0 0 3 16\n");
+    assert_eq!(desk.says("FREQ 203.12;LIAS?;OFLT?"), "0 0 5 0\n19\n");
+    assert_eq!(desk.field("range"), "lower");
+    assert_eq!(desk.says("FREQ 203.13;LIAS?;OFLT?"), "0 0 6 48\n13\n");
+    assert_eq!(desk.field("range"), "upper");
+}
+
+/// The last unit inside the band and the first outside; HARM and FMOD too.
+#[test]
+fn measured_frequencies_and_harmonics_move_the_range() {
     let mut desk = Desk::gpib();
-    assert_eq!(desk.says("OFLT 14;FREQ 200;LIAS?;OFLT 19;FREQ 200.01;LIAS?;OFLT?"), "3 1 9 16\n48\n13\n");
-    assert_eq!(desk.says("OFLT 5;FREQ 100;HARM 2;HARM 3;LIAS?;OFLT?"), "0 0 5 16\n5\n");
-    desk.says("*RST;*CLS;FREQ 1;OFLT 15;FMOD 0");
-    assert_eq!((desk.field("lia"), desk.field("oflt")), ("48".into(), "13".into()));
-    desk.does("measured 2000000");
-    assert_eq!(desk.says("*CLS;OFLT 14"), "0 0 0 ");
-    desk.does("measured 2000001");
-    assert_eq!((desk.field("lia"), desk.field("oflt")), ("48".into(), "13".into()));
-    desk.says("FMOD 1;OFLT 14;LIAS?;*RST");
-    assert_eq!((desk.field("lia"), desk.field("oflt"), desk.field("ext")), ("0".into(), "8".into(), "10000000".into()));
+    assert_eq!(desk.says("FMOD 0;LIAS?"), "0 0 2 0\n");
+    for (units, lia, range) in [
+        ("1992100", "0", "upper"),
+        ("1992099", "16", "lower"),
+        ("2031200", "0", "lower"),
+        ("2031201", "16", "upper"),
+        ("2031200", "0", "upper"),
+    ] {
+        assert_eq!(desk.does(&format!("measured {units}")), "A 0");
+        assert_eq!((desk.field("lia"), desk.field("range")), (lia.into(), range.into()), "{units}");
+        desk.says("*CLS");
+    }
+    assert_eq!(desk.says("OFLT 14;HARM 2;FMOD 1;FREQ 100.01;OFLT 14;LIAS?"), "3 1 2 0\n");
+    assert_eq!(desk.says("HARM 1;OFLT 14;HARM 2;LIAS?;OFLT?;HARM 3;LIAS?;OFLT?"), "0 0 12 16\n14\n48\n13\n");
+    assert_eq!(desk.says("HARM 1;OFLT 19;FMOD 0;LIAS?;OFLT?"), "0 0 6 16\n19\n");
+    desk.does("measured 2031201");
+    assert_eq!(
+        (desk.field("lia"), desk.field("oflt"), desk.field("range")),
+        ("48".into(), "13".into(), "upper".into())
+    );
+}
+
+/// It leaves the range upper.
+#[test]
+fn reset_from_lower_sets_no_bit_and_clears_none() {
+    let mut desk = Desk::gpib();
+    assert_eq!(desk.says("FREQ 100;OFLT 19;LIAS?;*RST;LIAS?;OFLT?"), "0 0 7 16\n0\n8\n");
+    assert_eq!(desk.field("range"), "upper");
+    desk.says("FREQ 100;OFLT 19;*RST");
+    assert_eq!((desk.field("lia"), desk.field("range")), ("16".into(), "upper".into()));
+    desk.says("FMOD 0;*CLS");
+    desk.does("measured 10");
+    desk.says("*CLS;OFLT 14;*RST");
+    assert_eq!(
+        (desk.field("lia"), desk.field("range"), desk.field("ext")),
+        ("0".into(), "upper".into(), "10000000".into())
+    );
+}
+
+/// By either frequency and with a harmonic, beside states that are allowed.
+#[test]
+fn the_three_faults_of_a_range_are_refused_by_11() {
+    for (alterations, tick) in [
+        ("range lower", "A 11"),
+        ("freq 10", "A 11"),
+        ("oflt 14", "A 11"),
+        ("freq 10,range lower,oflt 19", "A 0"),
+        ("freq 1992000", "A 11"),
+        ("freq 1992100", "A 0"),
+        ("freq 2031200", "A 0"),
+        ("freq 1992100,range lower", "A 0"),
+        ("freq 2031200,range lower,oflt 19", "A 0"),
+        ("freq 2031200,oflt 14", "A 11"),
+        ("freq 2031300,range lower", "A 11"),
+        ("fmod 0,ext 1992099", "A 11"),
+        ("fmod 0,ext 1992100", "A 0"),
+        ("fmod 0,ext 2031201,range lower", "A 11"),
+        ("freq 1015600,harm 2,range lower,oflt 14", "A 0"),
+        ("freq 1015700,harm 2,range lower", "A 11"),
+    ] {
+        let mut desk = Desk::gpib();
+        for alteration in alterations.split(',') {
+            assert_eq!(desk.does(&format!("alter {alteration}")), "K");
+        }
+        assert_eq!(desk.does("tick"), tick, "{alterations}");
+    }
 }
 
 #[test]
@@ -324,7 +402,7 @@ fn the_module_before_any_start_and_after_a_refused_one() {
     );
     assert!(before.ends_with(
         "storage=reset held=0 next=0 pair=00000000,00000000 esr=128 lia=0 err=0 ese=0 sre=0 liae=0 erre=0 queue=- \
-         dropping=0 t1=00000000 t2=00000000"
+         dropping=0 t1=00000000 t2=00000000 range=upper"
     ));
     session.answer(b"start 5 0 4 4");
     assert_eq!(session.answer(b"start 100000 0 4 5").unwrap(), "R 10");
