@@ -1,5 +1,5 @@
 -- The table of examples, each with what it shows, and the statement that the public calls show it: §4.3, §4.4, §4.5,
--- §5.2, §5.3, §6.3, §6.5, §6.6, §8.2, §13.7 and §13.8.
+-- §5.2, §5.3, §6.3, §6.5, §6.6, §6.7, §6.8, §8.2, §13.7 and §13.8.
 use Prim.Native.Nat.{ℕ, _+_, _-_, _*_}
 use Prim.Native.String.{String}
 use mathlib.Core.Path.{_≡_}
@@ -141,6 +141,15 @@ exampleTable =
     ∷ row (line "FREQ 100.01;HARM 2;OFLT 14")
     (passes (keeping oflt 14 (keeping harm 2 (keeping freq 1000100 startSettings))) [])
     ∷ row (line "HARM 2;FREQ 100;OFLT 14") (refuses 3 3 (keeping freq 1000000 (keeping harm 2 startSettings)))
+    -- §6.5: the band's ends are inside it: neither leads to another range, and the next step outside does
+    ∷ row (line "FREQ 199.21;OFLT 14") (refuses 3 2 (keeping freq 1992100 startSettings))
+    ∷ row (line "FREQ 199.2;OFLT 14") (passes (keeping oflt 14 (keeping freq 1992000 startSettings)) [])
+    ∷ row (line "FREQ 199.2;FREQ 203.12;OFLT 14")
+    (passes (keeping oflt 14 (keeping freq 2031200 startSettings)) [])
+    ∷ row (line "FREQ 199.2;FREQ 203.13;OFLT 14") (refuses 3 3 (keeping freq 2031300 startSettings))
+    -- §6.7 and §6.8: a fall sets LIA bit 4, a rise that shortens the time constant bits 4 and 5
+    ∷ row (line "FREQ 199.2;LIAS?;OFLT 19;FREQ 203.13;OFLT?;LIAS?")
+    (passes (keeping oflt 13 (keeping freq 2031300 startSettings)) (text "16" ++ text "13" ++ text "48"))
     -- §8.2: points as floats: 1, -1.5, the largest m, and the lowest point of all
     ∷ row (trcb (plus 1) 124) (sends 0x00 0x00 0x80 0x3F)
     ∷ row (trcb (minus 3) 123) (sends 0x00 0x00 0xC0 0xBF)
@@ -156,7 +165,7 @@ abbrev pub AllRows : List Row → Type 0
 AllRows [] = Unit {0}
 AllRows (r ∷ rs) = (seenOf (r .example) ≡ r .shows) × AllRows rs
 
--- §4.3, §4.4, §4.5, §5.2, §5.3, §6.3, §6.5, §6.6, §8.2, §8.4, §13.7 and §13.8: every example of the table does, in one
--- statement
+-- §4.3, §4.4, §4.5, §5.2, §5.3, §6.3, §6.5, §6.6, §6.7, §6.8, §8.2, §8.4, §13.7 and §13.8: every example of the table
+-- does, in one statement
 abbrev pub Examples : Type 0
 Examples = AllRows exampleTable

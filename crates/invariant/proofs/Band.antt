@@ -1,5 +1,5 @@
 -- What a measured frequency that is taken changes, inside the band and everywhere. Assumes nothing.
-use Prim.Native.Nat.{ℕ, _*_, _≤_, _<_}
+use Prim.Native.Nat.{ℕ, _+_, _*_, _≤_, _<_}
 use native.Mathlib.Omega.{arith}
 use native.Mathlib.Nat.{mul-comm, mul-le-mul, le-mul-of-pos-right}
 use mathlib.Core.Bool.{Bool, true, false, cond, _||_, or-true, and-eq-true-iff}
@@ -11,7 +11,7 @@ use borrow.Author.Tests.{le-leb, leb-true, leb-false, ltb-true, ltb-false}
 use Rattle.settings.specs.Limits.{frequencyLow, frequencyHigh, detectionLimit, bandLow, bandHigh, upperConstantMost}
 use Rattle.settings.specs.Table.{harm, oflt, valueOf, withValue}
 use Rattle.settings.specs.Frequency.{isInternal, inForce, detectionOf, rangeAt, rangeStands, timeConstantStands}
-use Rattle.settings.specs.Frequency.{rangeEffectOf}
+use Rattle.settings.specs.Frequency.{rangeChangedBit, shortenedBit, rangeEffectOf}
 use Rattle.settings.specs.declared.FrequencyRange.{FrequencyRange}
 use Rattle.settings.specs.declared.FrequencyRange.the-variants.{Upper, Lower}
 use Rattle.settings.specs.declared.RangeEffect.{RangeEffect}
@@ -104,7 +104,7 @@ module _ (s : State) where
   falling : detectionNow s < bandLow → s .acquisition .range ≡ Upper →
       Settles s (within Lower (rangeEffectOf Upper Lower constant))
   unfolding rangeEffectOf
-  falling d e = rw (or-true (leb constant upperConstantMost), kept Lower 16) (falls d e)
+  falling d e = rw (or-true (leb constant upperConstantMost), kept Lower rangeChangedBit) (falls d e)
 
   rising : bandHigh < detectionNow s → s .acquisition .range ≡ Lower →
       Settles s (within Upper (rangeEffectOf Lower Upper constant))
@@ -112,9 +112,10 @@ module _ (s : State) where
   rising d e = by (leb constant upperConstantMost) refl where
     by : (t : Bool) → leb constant upperConstantMost ≡ t →
         Settles s (within Upper
-        (cond (t || false) (record { constant = constant; bits = 16 }) (record { constant = 13; bits = 48 })))
-    by true l = rw (kept Upper 16) (rises d e (leb-true constant 13 l))
-    by false l = shortens d e (omega (arith, leb-false constant 13 l))
+        (cond (t || false) (record { constant = constant; bits = rangeChangedBit })
+        (record { constant = upperConstantMost; bits = rangeChangedBit + shortenedBit })))
+    by true l = rw (kept Upper rangeChangedBit) (rises d e (leb-true constant upperConstantMost l))
+    by false l = shortens d e (leb-false constant upperConstantMost l)
 
   -- by where the detection frequency lies
   moved : (old : FrequencyRange) → s .acquisition .range ≡ old → timeConstantStands old constant ≡ true →

@@ -1,13 +1,13 @@
 -- What a measured frequency that is taken does besides (§6.5, §6.7, §6.8): where the frequency range stays, nothing;
 -- and inside the band it stays, so that a chopper that drifts there leaves the settings of a measurement as they were.
-use Prim.Native.Nat.{ℕ, _*_, _≤_, _<_}
+use Prim.Native.Nat.{ℕ, _+_, _*_, _≤_, _<_}
 use mathlib.Core.Bool.{true, false, cond}
 use mathlib.Core.Path.{_≡_}
 use mathlib.Core.List.{List}
 use lib.ListN.{length}
-use Rattle.settings.specs.Limits.{bandLow, bandHigh}
+use Rattle.settings.specs.Limits.{bandLow, bandHigh, upperConstantMost}
 use Rattle.settings.specs.Table.{harm, oflt, valueOf, withValue}
-use Rattle.settings.specs.Frequency.{isInternal, rangeStands}
+use Rattle.settings.specs.Frequency.{isInternal, rangeStands, rangeChangedBit, shortenedBit}
 use Rattle.settings.specs.declared.FrequencyRange.{FrequencyRange}
 use Rattle.settings.specs.declared.FrequencyRange.the-variants.{Upper, Lower}
 use Rattle.status.specs.Status.{withLia}
@@ -52,13 +52,16 @@ pub data Settles (s : State) : State → Type 0 where
   -- §6.5: the range may stand at the detection frequency: it stays, and so does all else
   stays : rangeStands (detectionNow s) (s .acquisition .range) ≡ true → Settles s s
   -- §6.5 and §6.8: below the band the range falls: LIA bit 4
-  falls : detectionNow s < bandLow → s .acquisition .range ≡ Upper → Settles s (changedTo Lower 16 s)
+  falls : detectionNow s < bandLow → s .acquisition .range ≡ Upper → Settles s (changedTo Lower rangeChangedBit s)
   -- §6.5 and §6.8: above it the range rises: LIA bit 4; the time constant is one of the upper range
-  rises : bandHigh < detectionNow s → s .acquisition .range ≡ Lower → valueOf (s .settings) oflt ≤ 13 →
-      Settles s (changedTo Upper 16 s)
-  -- §6.7: or it is longer and becomes 13: LIA bits 4 and 5
-  shortens : bandHigh < detectionNow s → s .acquisition .range ≡ Lower → 14 ≤ valueOf (s .settings) oflt →
-      Settles s (withSettings (withValue (s .settings) oflt 13) (changedTo Upper 48 s))
+  rises : bandHigh < detectionNow s → s .acquisition .range ≡ Lower → valueOf (s .settings) oflt ≤ upperConstantMost →
+      Settles s (changedTo Upper rangeChangedBit s)
+  -- §6.7: or it is longer and becomes the longest of the upper range: LIA bits 4 and 5
+  shortens : bandHigh < detectionNow s → s .acquisition .range ≡ Lower →
+      upperConstantMost < valueOf (s .settings) oflt →
+      Settles s
+      (withSettings (withValue (s .settings) oflt upperConstantMost)
+      (changedTo Upper (rangeChangedBit + shortenedBit) s))
 
 -- §6.5, §6.7 and §6.8: a measured frequency that is taken changes the external frequency, and then does one of the
 -- four: so LIA bit 5 never comes without bit 4, and no time constant changes while the range stays

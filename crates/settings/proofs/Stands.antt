@@ -7,8 +7,8 @@ use native.Mathlib.Omega.{arith}
 use lib.Dec.{leb, ltb}
 use borrow.Author.Tests.{le-leb, leb-true, leb-false, ltb-true, ltb-false, le-ltb}
 use Rattle.settings.specs.Limits.{bandLow, bandHigh, upperConstantMost}
-use Rattle.settings.specs.Frequency.{isUpper, rangeAt, rangeStands, timeConstantStands, changeBits, shortenedBit}
-use Rattle.settings.specs.Frequency.{rangeEffectOf}
+use Rattle.settings.specs.Frequency.{isUpper, rangeAt, rangeStands, timeConstantStands, rangeChangedBit}
+use Rattle.settings.specs.Frequency.{changeBits, shortenedBit, rangeEffectOf}
 use Rattle.settings.specs.declared.FrequencyRange.{FrequencyRange}
 use Rattle.settings.specs.declared.FrequencyRange.the-variants.{Upper, Lower}
 use Rattle.settings.specs.declared.RangeEffect.{RangeEffect}
@@ -86,7 +86,8 @@ module _ (old new : FrequencyRange) (constant : ℕ) where
     by false false e = omega (arith, leb-false constant upperConstantMost e)
 
   -- the LIA bits that it sets are 4, 5, both or none: what holds of these four masks holds of it
-  pub effect-bits : (P : ℕ → Type 0) → P 0 → P 16 → P 32 → P 48 → P (rangeEffectOf old new constant .bits)
+  pub effect-bits : (P : ℕ → Type 0) → P 0 → P rangeChangedBit → P shortenedBit → P (rangeChangedBit + shortenedBit) →
+      P (rangeEffectOf old new constant .bits)
   unfolding rangeEffectOf
   effect-bits P none four five both = by (timeConstantStands new constant) old new where
     by : (t : Bool) (a b : FrequencyRange) →

@@ -64,11 +64,15 @@ rangeStands detection Lower = leb detection bandHigh
 abbrev pub timeConstantStands : FrequencyRange → ℕ → Bool
 timeConstantStands range constant = leb constant upperConstantMost || not (isUpper range)
 
--- §6.8: the LIA bits of a range that was old and is new, as a mask: a change sets bit 4
+-- §6.8: the mask of LIA bit 4, which a change of range sets
+abbrev pub rangeChangedBit : ℕ
+rangeChangedBit = 16
+
+-- §6.8: the LIA bits of a range that was old and is new, as a mask
 abbrev pub changeBits : FrequencyRange → FrequencyRange → ℕ
 changeBits Upper Upper = 0
-changeBits Upper Lower = 16
-changeBits Lower Upper = 16
+changeBits Upper Lower = rangeChangedBit
+changeBits Lower Upper = rangeChangedBit
 changeBits Lower Lower = 0
 
 -- §6.7: the mask of LIA bit 5, which a time constant made shorter sets
