@@ -2,4 +2,3 @@
 pub mod Divided
 pub mod Exact
 pub mod Words
-pub mod OneList

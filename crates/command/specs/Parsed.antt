@@ -8,7 +8,7 @@ use Rattle.number.specs.declared.Argument.TheVariants as argument
 use Rattle.settings.specs.Limits.{capacity_least, capacity_most}
 use Rattle.settings.specs.Setting.{setting_of}
 use Rattle.outcome.specs.declared.Refusal.TheVariants.{Malformed, OutOfRange}
-use Rattle.mnemonic.specs.Names.{Named, commands, meaning_in}
+use Rattle.mnemonic.specs.Names.{meaning_of}
 use Rattle.mnemonic.specs.declared.Register.{Register}
 use Rattle.mnemonic.specs.declared.Form.{Form}
 use Rattle.mnemonic.specs.declared.Meaning.{Meaning}
@@ -155,17 +155,12 @@ query_with (meaning.Act a) args = malformed
 query_with meaning.Unknown args = malformed
 
 -- §3.1: one command, its spaces left out and its letters made capitals: a name of four bytes, "?" for a query, and
--- arguments; an empty one does nothing (§2.6). What a name stands for is found in a list of names (§3.2)
-unfoldable pub parsed_in : List Named → List ℕ → Parsed
-parsed_in list [] = Empty
-parsed_in list (b ∷ bs) =
+-- arguments; an empty one does nothing (§2.6)
+unfoldable pub parsed_of : List ℕ → Parsed
+parsed_of [] = Empty
+parsed_of (b ∷ bs) =
     let s = b ∷ bs in
-    let meaning = meaning_in list (take 4 s) in
     cond (ltb (length s) 4) malformed
     (cond (begins question_mark (drop 4 s))
-    (query_with meaning (arguments (drop 5 s)))
-    (set_with meaning (arguments (drop 4 s))))
-
--- §3.1 and §3.2: one command, its name found in the list of all commands
-abbrev pub parsed_of : List ℕ → Parsed
-parsed_of text = parsed_in commands text
+    (query_with (meaning_of (take 4 s)) (arguments (drop 5 s)))
+    (set_with (meaning_of (take 4 s)) (arguments (drop 4 s))))

@@ -1,5 +1,6 @@
 // One command of a line, read from its text: a set, a query or an action with its arguments, or refusal 1 or 2.
-ghost use Rattle.std.specs.Prelude.{◌≡◌, ◌+◌, ◌-◌, ◌*◌};
+ghost use Rattle.std.specs.Prelude.{◌≡◌, ◌+◌, ◌-◌, ◌*◌, ◌≤◌, length, take};
+ghost use Rattle.mnemonic.specs.Parts.{word};
 ghost use Rattle.number.specs.Parts.{taken_of};
 ghost use Rattle.command.specs.Arguments.{arguments};
 ghost use Rattle.command.specs.Parts.{alone_of, two_of};
@@ -507,6 +508,16 @@ fn query_with(meaning: Meaning, args: &[u8]) -> Parsed
     }
 }
 
+// The first four bytes, a command's name, as one number: the first byte is the highest.
+fn word_of(text: &[u8]) -> u32
+    requires { 4 ≤ length text.now }
+    ensures { result ≡ word (take 4 text.now) }
+{
+    let high = text[0] as u32 * 0x100 + text[1] as u32;
+    let low = text[2] as u32 * 0x100 + text[3] as u32;
+    high * 0x1_0000 + low
+}
+
 // One command read from its text, which has no space and no small letter any more: its name, "?" for a query, and its
 // arguments.
 pub fn parse(text: &[u8]) -> Parsed
@@ -519,7 +530,7 @@ pub fn parse(text: &[u8]) -> Parsed
     if n < 4 {
         return Parsed::Refused(Refusal::Malformed);
     }
-    let meaning = mnemonic::find(mnemonic::word_of(text));
+    let meaning = mnemonic::find(word_of(text));
     if n < 5 {
         return set_with(meaning, &text[4..]);
     }

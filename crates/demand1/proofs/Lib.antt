@@ -1,4 +1,3 @@
 -- Demand 1, proved.
 pub mod OneByOne
 pub mod Demand1
-pub mod Names

@@ -6,7 +6,7 @@ use mathlib.Core.List.{List, [], ◌∷◌, Memᴰ}
 use native.Mathlib.Omega.{arith}
 use lib.Dec.{leb, ltb, eqb}
 use borrow.Author.Tests.{ltb-true, leb-true, eqb-true, eqb-false}
-use Rattle.mnemonic.specs.Names.{sections, meaning_in, commands, meaning_of}
+use Rattle.mnemonic.specs.Names.{commands, meaning_in, meaning_of}
 use Rattle.mnemonic.specs.declared.Meaning.{Meaning}
 use Rattle.mnemonic.specs.declared.Meaning.TheVariants.{Setting, Channel, ChannelPair, Enable, Status, Identity}
 use Rattle.mnemonic.specs.declared.Meaning.TheVariants.{Points, Trace, Act, Unknown}
@@ -35,7 +35,7 @@ covers entry (Act a) = false
 covers entry Unknown = false
 
 all_covered : every (λ entry. some (covers entry) commands) entries ≡ true
-unfolding every sections meaning_in commands
+unfolding every meaning_in
 all_covered = refl
 
 record Within (base end entry : ℕ) : Type 0 where

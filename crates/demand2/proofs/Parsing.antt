@@ -25,8 +25,7 @@ use Rattle.settings.specs.Setting.{setting_of}
 use Rattle.settings.specs.Valid.{value_valid}
 use Rattle.settings.proofs.Rows.{row_size, row_decimals}
 use Rattle.command.specs.Arguments.{comma, arguments}
-use Rattle.command.specs.Parsed.{taken, whole_range, whole_of, one, two, three, alone, set_with, query_with}
-use Rattle.command.specs.Parsed.{parsed_in, parsed_of}
+use Rattle.command.specs.Parsed.{parsed_of, taken, whole_range, whole_of, one, two, three, alone, set_with, query_with}
 use Rattle.command.specs.Parsed.{set_setting, set_channel, set_channel_pair, set_enable}
 use Rattle.command.specs.Parsed.{query_enable, query_channel, query_channel_pair, query_trace}
 use Rattle.command.proofs.Exact.{whole_is}
@@ -69,7 +68,7 @@ joined_bytes x y b c = all_append in_arguments x (comma ∷ y) (in_arguments_lem
 parsed_name : (name rest : List ℕ) → length name ≡ 4 →
     let m = meaning_of name in
     parsed_of (name ++ rest) ≡ cond (begins 63 rest) (query_with m (arguments (drop 1 rest))) (set_with m (arguments rest))
-unfolding parsed_in
+unfolding parsed_of
 parsed_name [] rest h = absurd (omega arith)
 parsed_name (a ∷ []) rest h = absurd (omega arith)
 parsed_name (a ∷ b ∷ []) rest h = absurd (omega arith)

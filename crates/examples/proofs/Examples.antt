@@ -6,7 +6,7 @@ use Rattle.split.specs.Divide.{span, on_head, parts}
 use Rattle.number.specs.Number.{all_digits, begins, unsigned, is_mantissa, is_number}
 use Rattle.number.specs.Value.{decimal_after, exact_of, in_range, argument_of}
 use Rattle.line_text.specs.Clean.{cleaned}
-use Rattle.mnemonic.specs.Names.{sections, meaning_in, commands}
+use Rattle.mnemonic.specs.Names.{meaning_in}
 use Rattle.point.specs.Single.{pattern}
 use Rattle.point.specs.Point.{magnitude_of, is_legal, highest, single_of, float_of}
 use Rattle.point.specs.Bytes.{low_first, little_endian}
@@ -17,7 +17,7 @@ use Rattle.settings.specs.Setting.{turned_at, setting_of, step_of}
 use Rattle.settings.specs.Valid.{value_valid, every, values_valid, valid_settings}
 use Rattle.command.specs.Arguments.{arguments}
 use Rattle.command.specs.Parsed.{one, three, set_setting, query_status, query_trace, alone, set_with, query_with}
-use Rattle.command.specs.Parsed.{parsed_in}
+use Rattle.command.specs.Parsed.{parsed_of}
 use Rattle.storage.specs.Storage as storage
 use Rattle.status.specs.Bits.{meets}
 use Rattle.status.specs.Status as status
@@ -57,8 +57,8 @@ all_rows (r ∷ rows) e =
 -- every definition that an example runs through is unfolded, from the text of a number up to the calls
 pub examples : Examples
 unfolding span on_head parts all_digits begins unsigned is_mantissa is_number decimal_after exact_of in_range argument_of
-    cleaned sections meaning_in commands arguments one three set_setting query_status query_trace alone set_with query_with
-    parsed_in
+    cleaned meaning_in arguments one three set_setting query_status query_trace alone set_with query_with
+    parsed_of
     padded digit_count_in plain fixed sign signed_text
     count_leading_zeros pattern magnitude_of is_legal highest single_of float_of low_first little_endian fits_in word_at formed
     point_bytes

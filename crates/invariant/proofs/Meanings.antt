@@ -7,13 +7,12 @@ use native.Mathlib.Omega.{arith}
 use lib.Dec.{leb, ltb, eqb}
 use lib.ListN.{length}
 use borrow.Author.Tests.{ltb-true, leb-true, eqb-true}
-use Rattle.split.specs.Ascii.{same_bytes}
-use Rattle.mnemonic.specs.Names.{sections, meaning_in, commands, meaning_of}
+use Rattle.mnemonic.specs.Names.{commands, same_bytes, meaning_of}
 use Rattle.mnemonic.specs.declared.Register.{Register}
 use Rattle.mnemonic.specs.declared.Meaning.{Meaning}
 use Rattle.mnemonic.specs.declared.Meaning.TheVariants.{Setting, Channel, ChannelPair, Enable, Status, Identity}
 use Rattle.mnemonic.specs.declared.Meaning.TheVariants.{Points, Trace, Act, Unknown}
-use Rattle.mnemonic.proofs.Rule.{same_bytes_lem, named_by, name_rule, entry_in_table}
+use Rattle.mnemonic.proofs.Rule.{same_bytes_lem, named_by, name_rule}
 use Rattle.settings.specs.Table.{table, row_of, entries, oflt, send}
 use Rattle.settings.specs.Setting.{step_of}
 use Rattle.settings.specs.Valid.{every, value_valid}
@@ -94,7 +93,7 @@ alike_two base k =
 
 -- what a name stands for fits the table, for every channel
 abbrev fits : List ℕ → Meaning → Bool
-fits name (Setting entry) = is_name name
+fits name (Setting entry) = is_name name && ltb entry entries
 fits name (Channel base channels) = is_name name && channels_fit (alike_one base) base (base + channels) channels
 fits name (ChannelPair base channels) = is_name name && channels_fit (alike_two base) base (base + 2 * channels) channels
 fits name (Enable r) = is_name name
@@ -106,7 +105,7 @@ fits name (Act a) = true
 fits name Unknown = true
 
 fits_all : all (named_by fits) commands ≡ true
-unfolding every table row_of sections meaning_in commands
+unfolding every table row_of
 fits_all = refl
 
 -- ---- what follows of a name
@@ -127,7 +126,8 @@ module _ (name : List ℕ) where
 
   pub name_of_one : (entry : ℕ) → meaning_of name ≡ Setting entry → Name name × (entry < entries)
   name_of_one entry e =
-      (is_name_lem name (fits-name (Setting entry) e), entry_in_table name entry e)
+      let both = (and-eq-true_iff (is_name name) (ltb entry entries)).0 (fits-name (Setting entry) e) in
+      (is_name_lem name both.0, ltb-true entry entries both.1)
 
   pub name_of_enable : (which : Register) → meaning_of name ≡ Enable which → Name name
   name_of_enable which e = is_name_lem name (fits-name (Enable which) e)

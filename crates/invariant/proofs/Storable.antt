@@ -25,8 +25,7 @@ use Rattle.mnemonic.specs.declared.Register.{Register}
 use Rattle.mnemonic.specs.declared.Meaning.{Meaning}
 use Rattle.mnemonic.specs.declared.Meaning.TheVariants as meaning
 use Rattle.command.specs.Arguments.{arguments}
-use Rattle.command.specs.Parsed.{with, one, two, three, whole_range, whole_of, alone, set_with, query_with}
-use Rattle.command.specs.Parsed.{parsed_in, parsed_of}
+use Rattle.command.specs.Parsed.{with, one, two, three, whole_range, whole_of, alone, set_with, query_with, parsed_of}
 use Rattle.command.specs.Parsed.{set_setting, set_channel, set_channel_pair, set_enable}
 use Rattle.command.specs.Parsed.{query_channel, query_channel_pair, query_enable, query_status, query_trace}
 use Rattle.command.specs.declared.SetArgument.{SetArgument}
@@ -201,7 +200,7 @@ set_storable name meaning.Unknown args e = omega arith
 
 -- a command's text
 pub parsed_storable : (text : List ℕ) → StorableParsed (parsed_of text)
-unfolding parsed_in
+unfolding parsed_of
 parsed_storable [] = tt
 parsed_storable (b ∷ bs) = by (ltb (length (b ∷ bs)) 4) (begins 63 (drop 4 (b ∷ bs))) where
   name : List ℕ

@@ -1,4 +1,3 @@
 -- Laws on tests and lists that the toolchain does not have.
 pub mod Tests
 pub mod Lists
-pub mod Arms

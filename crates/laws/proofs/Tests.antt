@@ -4,7 +4,6 @@ use Prim.Native.Nat.{ℕ}
 use native.Mathlib.Omega.{arith}
 use mathlib.Core.Path.{◌≡◌, refl}
 use mathlib.Core.Bool.{Bool, true, false, cond, ◌&&◌, and-eq-true_iff}
-use lib.Dec.{T}
 
 -- a proof by a test's two cases, each with the equation that says which it is
 pub split : {Goal : Type 0} (t : Bool) → (t ≡ true → Goal) → (t ≡ false → Goal) → Goal
@@ -22,11 +21,6 @@ and_first a b h = ((and-eq-true_iff a b).0 h).0
 
 pub and_second : (a b : Bool) → a && b ≡ true → b ≡ true
 and_second a b h = ((and-eq-true_iff a b).0 h).1
-
--- the same of tests as propositions
-pub both : (a b : Bool) → T (a && b) → T a × T b
-both true b t = (tt, t)
-both false b t = absurd t
 
 -- nothing is both of two cases: of 0 and 1, to which congruence leads from two different cases
 pub never : {A : Type 0} → ◌≡◌ {A = ℕ} 0 1 → A

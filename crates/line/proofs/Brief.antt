@@ -4,28 +4,29 @@ use mathlib.Core.Path.{◌≡◌, refl}
 use mathlib.Core.Bool.{Bool, true, false, cond, ◌&&◌, and-eq-true_iff}
 use mathlib.Core.List.{List, [], ◌∷◌}
 use native.Mathlib.Omega.{arith}
-use borrow.Author.Tests.{leb-true}
+use borrow.Author.Tests.{ltb-true, leb-true}
 use lib.Dec.{ltb, leb, eqb}
 use lib.ListN.{length, take, drop}
 use Rattle.laws.proofs.Tests.{cond_by}
+use Rattle.laws.proofs.Lists.{all}
 use Rattle.split.specs.Divide.{on_head, parts}
 use Rattle.number.specs.Number.{is_number, begins}
 use Rattle.number.specs.declared.Argument.{Argument}
 use Rattle.number.specs.declared.Argument.TheVariants as argument
-use Rattle.settings.specs.Table.{row_of}
+use Rattle.settings.specs.Table.{entries, row_of}
 use Rattle.settings.specs.Setting.{setting_of}
 use Rattle.settings.specs.Valid.{value_valid}
 use Rattle.settings.proofs.Invariant.{setting_keeps}
 use Rattle.settings.proofs.Rows.{row_size}
 use Rattle.outcome.specs.Code.{code_of}
 use Rattle.outcome.specs.declared.Refusal.TheVariants.{Malformed}
-use Rattle.mnemonic.specs.Names.{meaning_of}
+use Rattle.mnemonic.specs.Names.{commands, meaning_of}
 use Rattle.mnemonic.specs.declared.Meaning.{Meaning}
 use Rattle.mnemonic.specs.declared.Meaning.TheVariants as meaning
-use Rattle.mnemonic.proofs.Rule.{entry_in_table}
+use Rattle.mnemonic.proofs.Rule.{named_by, name_rule}
 use Rattle.command.specs.Arguments.{question_mark, comma, arguments}
 use Rattle.command.specs.Parsed.{with, one, two, three, whole_of, bit_most, register_most, alone}
-use Rattle.command.specs.Parsed.{set_with, query_with, parsed_in, parsed_of}
+use Rattle.command.specs.Parsed.{set_with, query_with, parsed_of}
 use Rattle.command.specs.Parsed.{set_setting, set_channel, set_channel_pair, set_enable}
 use Rattle.command.specs.Parsed.{query_channel, query_channel_pair, query_enable, query_status, query_trace}
 use Rattle.command.specs.declared.SetArgument.{SetArgument}
@@ -140,7 +141,7 @@ begins-other b (x ∷ s) h = (or-none (eqb x b) (has b s) h).0
 
 -- a text without "?" replies nothing
 pub silent_parsed : (text : List ℕ) → Without question_mark text → Reads Silent (parsed_of text)
-unfolding parsed_in
+unfolding parsed_of
 silent_parsed [] h = tt
 silent_parsed (b ∷ bs) h =
     rw (begins-other question_mark (drop 4 (b ∷ bs)) (without_drop question_mark 4 (b ∷ bs) h))
@@ -186,6 +187,30 @@ argument_by : (P : List (List ℕ) → Type 0) → P [] → ((a : List ℕ) → 
 unfolding arguments
 argument_by P none one [] h = none
 argument_by P none one (b ∷ bs) h = rw (whole_part (b ∷ bs) h) (one (b ∷ bs))
+
+-- whether an entry that a name stands for is one of the table
+in_table : List ℕ → Meaning → Bool
+in_table name (meaning.Setting entry) = ltb entry entries
+in_table name (meaning.Channel base channels) = true
+in_table name (meaning.ChannelPair base channels) = true
+in_table name (meaning.Enable r) = true
+in_table name (meaning.Status r) = true
+in_table name meaning.Identity = true
+in_table name meaning.Points = true
+in_table name (meaning.Trace form) = true
+in_table name (meaning.Act a) = true
+in_table name meaning.Unknown = true
+
+-- which is so of every name
+all_in_table : all (named_by in_table) commands ≡ true
+unfolding in_table
+all_in_table = refl
+
+-- and of what it stands for
+entry_in_table : (name : List ℕ) (entry : ℕ) → meaning_of name ≡ meaning.Setting entry → entry < entries
+unfolding in_table
+entry_in_table name entry e =
+    ltb-true entry entries (rw e at (name_rule in_table all_in_table name refl))
 
 -- a value that a state may keep fits its field
 valid-fits : (entry v : ℕ) → value_valid entry v ≡ true → v < 4294967296
@@ -240,7 +265,7 @@ query_brief meaning.Unknown s h = omega arith
 
 -- a text without "," is a command of at most one argument
 pub brief_parsed : (text : List ℕ) → Without comma text → Reads Brief (parsed_of text)
-unfolding parsed_in
+unfolding parsed_of
 brief_parsed [] h = tt
 brief_parsed (b ∷ bs) h =
     let s = b ∷ bs in

@@ -1,17 +1,14 @@
 -- A rule on what the names stand for is one test that computes over their list. Assumes nothing.
-use Prim.Native.Nat.{ℕ, ◌<◌}
+use Prim.Native.Nat.{ℕ}
 use mathlib.Core.Path.{◌≡◌, refl, sym}
 use mathlib.Core.Bool.{Bool, true, false, true≢false, cond, ◌||◌, and-eq-true_iff}
 use mathlib.Core.List.{List, [], ◌∷◌, foldr}
-use lib.Dec.{eqb, ltb}
-use borrow.Author.Tests.{eqb-true, ltb-true}
+use lib.Dec.{eqb}
+use borrow.Author.Tests.{eqb-true}
 use Rattle.laws.proofs.Lists.{all}
-use Rattle.split.specs.Ascii.{same_bytes}
-use Rattle.settings.specs.Table.{entries}
-use Rattle.mnemonic.specs.Names.{Named, sections, commands, meaning_in, meaning_of}
+use Rattle.mnemonic.specs.Names.{Named, commands, same_bytes, meaning_in, meaning_of}
 use Rattle.mnemonic.specs.declared.Meaning.{Meaning}
-use Rattle.mnemonic.specs.declared.Meaning.TheVariants.{Setting, Channel, ChannelPair, Enable, Status, Identity}
-use Rattle.mnemonic.specs.declared.Meaning.TheVariants.{Points, Trace, Act, Unknown}
+use Rattle.mnemonic.specs.declared.Meaning.TheVariants.{Unknown}
 
 -- bytes that the test finds alike are the same
 pub same_bytes_lem : (s t : List ℕ) → same_bytes s t ≡ true → s ≡ t
@@ -26,8 +23,7 @@ abbrev pub named_by : (List ℕ → Meaning → Bool) → Named → Bool
 named_by p n = p n.name n.meaning
 
 -- a test that each name of a list passes holds of what the list has a name stand for
-all_in : (p : List ℕ → Meaning → Bool) (ns : List Named) → all (named_by p) ns ≡ true → (s : List ℕ) →
-    p s Unknown ≡ true →
+all_in : (p : List ℕ → Meaning → Bool) (ns : List Named) → all (named_by p) ns ≡ true → (s : List ℕ) → p s Unknown ≡ true →
     p s (meaning_in ns s) ≡ true
 unfolding meaning_in
 all_in p [] t s u = u
@@ -58,27 +54,3 @@ name_found p (n ∷ ns) h = by (p (meaning_of n.name)) refl h (name_found p ns) 
       (some p ns ≡ true → (name : List ℕ) × (p (meaning_of name) ≡ true)) → (name : List ℕ) × (p (meaning_of name) ≡ true)
   by true e g rest = (n.name, e)
   by false e g rest = rest g
-
--- ---- a setting's entry
-
--- whether an entry that a name stands for is one of the settings table
-abbrev in_table : List ℕ → Meaning → Bool
-in_table name (Setting entry) = ltb entry entries
-in_table name (Channel base channels) = true
-in_table name (ChannelPair base channels) = true
-in_table name (Enable r) = true
-in_table name (Status r) = true
-in_table name Identity = true
-in_table name Points = true
-in_table name (Trace form) = true
-in_table name (Act a) = true
-in_table name Unknown = true
-
--- which is so of every name
-all_in_table : all (named_by in_table) commands ≡ true
-unfolding sections meaning_in commands
-all_in_table = refl
-
--- and of what it stands for
-pub entry_in_table : (name : List ℕ) (entry : ℕ) → meaning_of name ≡ Setting entry → entry < entries
-entry_in_table name entry e = ltb-true entry entries (rw e at (name_rule in_table all_in_table name refl))

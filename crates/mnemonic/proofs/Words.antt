@@ -7,9 +7,7 @@ use native.Mathlib.Omega.{arith}
 use lib.Dec.{T, eqb, ltb, ltb→lt}
 use borrow.Author.Tests.{eq-eqb, ne_eqb, eqb-true, eqb-false}
 use Rattle.laws.proofs.Lists.{all}
-use Rattle.laws.proofs.Tests.{both}
-use Rattle.split.specs.Ascii.{same_bytes}
-use Rattle.mnemonic.specs.Names.{Named, commands, meaning_in}
+use Rattle.mnemonic.specs.Names.{Named, commands, same_bytes, meaning_in}
 use Rattle.mnemonic.specs.Parts.{word, found_in}
 use Rattle.mnemonic.specs.Words.{is_four, FoundWord}
 
@@ -35,18 +33,23 @@ module _ (a b c d e f g h : ℕ) (ha : a < 256) (hb : b < 256) (hc : c < 256) (h
       by true false r s i j k l = ne_eqb (word left) (word right) (λ z. eqb-false b f j (omega arith))
       by false q r s i j k l = ne_eqb (word left) (word right) (λ z. eqb-false a e i (omega arith))
 
+-- the halves of two tests that both hold
+both_true : (a b : Bool) → T (a && b) → T a × T b
+both_true true b t = (tt, t)
+both_true false b t = absurd t
+
 -- every name of a list is four bytes
-abbrev pub all_four : List Named → Bool
+abbrev all_four : List Named → Bool
 all_four ns = all (λ n. is_four n.name) ns
 
 same_four : (s t : List ℕ) → T (is_four s) → T (is_four t) → eqb (word s) (word t) ≡ same_bytes s t
 same_four (a ∷ b ∷ c ∷ d ∷ []) (e ∷ f ∷ g ∷ h ∷ []) p q =
-    let p1 = both (ltb a 256) _ p in
-    let p2 = both (ltb b 256) _ p1.1 in
-    let p3 = both (ltb c 256) _ p2.1 in
-    let q1 = both (ltb e 256) _ q in
-    let q2 = both (ltb f 256) _ q1.1 in
-    let q3 = both (ltb g 256) _ q2.1 in
+    let p1 = both_true (ltb a 256) _ p in
+    let p2 = both_true (ltb b 256) _ p1.1 in
+    let p3 = both_true (ltb c 256) _ p2.1 in
+    let q1 = both_true (ltb e 256) _ q in
+    let q2 = both_true (ltb f 256) _ q1.1 in
+    let q3 = both_true (ltb g 256) _ q2.1 in
     same_word a b c d e f g h (ltb→lt a 256 p1.0) (ltb→lt b 256 p2.0) (ltb→lt c 256 p3.0)
     (ltb→lt d 256 p3.1) (ltb→lt e 256 q1.0) (ltb→lt f 256 q2.0) (ltb→lt g 256 q3.0) (ltb→lt h 256 q3.1)
 
@@ -55,10 +58,9 @@ found_is : (ns : List Named) → T (all_four ns) → (s : List ℕ) → T (is_fo
 unfolding found_in meaning_in
 found_is [] t s f = refl
 found_is (n ∷ ns) t s f =
-    let b = both (is_four n.name) (all_four ns) t in
+    let b = both_true (is_four n.name) (all_four ns) t in
     rw (same_four n.name s b.0 f, found_is ns b.1 s f)
 
 -- the search by one number is the search by four bytes
 pub found_word : FoundWord
-unfolding commands
 found_word s f = found_is commands tt s f

@@ -13,12 +13,12 @@ use Rattle.split.specs.Divide.{parts, on_head}
 use Rattle.line_text.specs.Clean.{cleaned}
 use Rattle.number.specs.Number.{begins}
 use Rattle.format.specs.Text.{plain}
-use Rattle.mnemonic.specs.Names.{sections, meaning_in, commands, meaning_of}
+use Rattle.mnemonic.specs.Names.{meaning_in, meaning_of}
 use Rattle.mnemonic.specs.declared.Meaning.TheVariants as meaning
 use Rattle.mnemonic.specs.declared.Form.{Form}
 use Rattle.mnemonic.specs.declared.Form.TheVariants.{Words, Floats}
 use Rattle.command.specs.Arguments.{arguments}
-use Rattle.command.specs.Parsed.{parsed_in, parsed_of, alone, query_with}
+use Rattle.command.specs.Parsed.{parsed_of, alone, query_with}
 use Rattle.command.specs.declared.QueryArgument.TheVariants as query
 use Rattle.command.specs.declared.Kind.TheVariants.{Query}
 use Rattle.storage.specs.Storage.{oldest_of, holds_of}
@@ -83,7 +83,7 @@ trace-length t n one two p q = by (eqb t 1) where
 -- ---- the texts of the queries
 
 pub says-points : Says (bytes "SPTS?") (Query query.Points)
-unfolding cleaned parts on_head parsed_in begins sections meaning_in commands query_with arguments alone
+unfolding cleaned parts on_head parsed_of begins meaning_in query_with arguments alone
 says-points = record { short = omega arith; kept = refl; single = refl; read = refl }
 
 trace-name : (form : Form) → Name (trace_name form)
@@ -91,7 +91,7 @@ trace-name Words = record { four = refl; bytes = refl }
 trace-name Floats = record { four = refl; bytes = refl }
 
 trace_means : (form : Form) → meaning_of (trace_name form) ≡ meaning.Trace form
-unfolding sections meaning_in commands
+unfolding meaning_in
 trace_means Words = refl
 trace_means Floats = refl
 

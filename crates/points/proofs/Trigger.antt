@@ -14,10 +14,10 @@ use Rattle.outcome.specs.Answer.{first_of, drops}
 use Rattle.outcome.specs.declared.Refusal.{Refusal}
 use Rattle.outcome.specs.declared.Outcome.{Outcome}
 use Rattle.outcome.specs.declared.Outcome.TheVariants.{Done, Refused}
-use Rattle.mnemonic.specs.Names.{sections, meaning_in, commands}
+use Rattle.mnemonic.specs.Names.{meaning_in}
 use Rattle.mnemonic.specs.declared.Action.TheVariants.{Trigger}
 use Rattle.command.specs.Arguments.{arguments}
-use Rattle.command.specs.Parsed.{parsed_in, parsed_of, alone, set_with}
+use Rattle.command.specs.Parsed.{parsed_of, alone, set_with}
 use Rattle.command.specs.declared.Kind.TheVariants.{Act}
 use Rattle.state.specs.Storing.{trigger_of}
 use Rattle.state.specs.declared.State.{State}
@@ -36,7 +36,7 @@ use Rattle.points.specs.Trigger.{DoesAs, TrigIsTrigger}
 use Rattle.invariant.proofs.OneCommand.{Says, said_call}
 
 says_trig : Says (bytes "TRIG") (Act Trigger)
-unfolding cleaned parts on_head parsed_in begins sections meaning_in commands set_with arguments alone
+unfolding cleaned parts on_head parsed_of begins meaning_in set_with arguments alone
 says_trig = record { short = omega arith; kept = refl; single = refl; read = refl }
 
 -- what TRIG does is what the trigger event does

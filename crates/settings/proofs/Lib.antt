@@ -5,7 +5,6 @@ pub mod Every
 pub mod Parts
 pub mod Phase
 pub mod Start
-pub mod Entries
 pub mod Exact
 pub mod Rounded
 pub mod Invariant

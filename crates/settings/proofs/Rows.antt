@@ -6,18 +6,27 @@ use mathlib.Core.List.{List, [], ◌∷◌}
 use lib.Dec.{T, leb, ltb, leb→le}
 use lib.ListN.{get_or}
 use Rattle.laws.proofs.Lists.{all}
-use Rattle.laws.proofs.Tests.{both}
 use Rattle.settings.specs.Table.{table, row_of, no_row, phase, frequency}
 use Rattle.settings.specs.Limits.{hertz}
 use Rattle.settings.specs.Frequency.{step_by, frequency_step}
 use Rattle.settings.specs.Setting.{step_of}
 use Rattle.settings.specs.declared.Row.{Row}
 
+-- both of two tests hold: the first one
+and_left : (a b : Bool) → T (a && b) → T a
+and_left true b t = tt
+and_left false b t = t
+
+-- and the second
+and_right : (a b : Bool) → T (a && b) → T b
+and_right true b t = t
+and_right false b t = absurd t
+
 -- a test that holds of every row holds of the one at an index
 all_at : (p : Row → Bool) (rs : List Row) (d : Row) → T (all p rs) → T (p d) → (i : ℕ) → T (p (get_or rs i d))
 all_at p [] d t e i = e
-all_at p (r ∷ rs) d t e zero = (both (p r) (all p rs) t).0
-all_at p (r ∷ rs) d t e (suc i) = all_at p rs d (both (p r) (all p rs) t).1 e i
+all_at p (r ∷ rs) d t e zero = and_left (p r) (all p rs) t
+all_at p (r ∷ rs) d t e (suc i) = all_at p rs d (and_right (p r) (all p rs) t) e i
 
 -- a test that computes to true over the table, and at the row past it, holds of every entry's row
 pub row_rule : (p : Row → Bool) → T (all p table) → T (p no_row) → (entry : ℕ) → T (p (row_of entry))
@@ -103,8 +112,8 @@ pub record Step (s : ℕ) : Type 0 where
 step : (s : ℕ) → T (leb 1 s && leb s 100000) → Step s
 step s t =
     record {
-      least = leb→le 1 s (both (leb 1 s) (leb s 100000) t).0;
-      most = leb→le s 100000 (both (leb 1 s) (leb s 100000) t).1;
+      least = leb→le 1 s (and_left (leb 1 s) (leb s 100000) t);
+      most = leb→le s 100000 (and_right (leb 1 s) (leb s 100000) t);
     }
 
 -- every step that goes by the value is within these bounds

@@ -1,7 +1,5 @@
 -- The settings table (§5.1), row by row, and the values that settings have.
-use Rattle.std.specs.Prelude.{ℕ, zero, suc, ◌+◌, ◌-◌, ◌%◌, max, true, false, cond, List, [], ◌∷◌, ◌++◌, map, ltb, length, get_or, set}
-use Prim.Native.String.{String}
-use Rattle.split.specs.Ascii.{bytes, same_bytes}
+use Rattle.std.specs.Prelude.{ℕ, ◌+◌, ◌-◌, ◌%◌, true, false, cond, List, [], ◌∷◌, map, ltb, get_or, set}
 use Rattle.settings.specs.Limits.{frequency_low, frequency_high, frequency_start}
 use Rattle.settings.specs.declared.Row.{Row}
 use Rattle.settings.specs.declared.Settings.{Settings}
@@ -81,76 +79,44 @@ level = plain_row 0 4 5000 2 3 1000
 unfoldable pub turned_of : ℕ → ℕ
 turned_of x = phase.least + (x + (turn - phase.least)) % turn
 
--- §5.1: a setting, which is a line of the settings table: its name (§3.2), the number of its channels, 0 where it has
--- none, and the rows of what is set and asked together: one value, or two (§5.4)
-pub record Setting : Type 0 where
-  pub name : List ℕ
-  pub channels : ℕ
-  pub values : List Row
-
--- §5.1: a setting without channels
-abbrev alone : String → Row → Setting
-alone name row = record { name = bytes name; channels = 0; values = row ∷ [] }
-
--- §5.1 and §5.4: a setting whose first argument i is a channel, from 1
-abbrev channelled : String → ℕ → List Row → Setting
-channelled name channels values = record { name = bytes name; channels = channels; values = values }
-
--- §5.1: the settings table: the names of commands, the entries and the values at start are computed from it
-abbrev pub settings_table : List Setting
-settings_table =
-    alone "PHAS" phase  -- -360.00 to 729.99 by 0.01
-    ∷ alone "FMOD" (whole_row 0 1 1)  -- 0 external, 1 internal; start 1
-    ∷ alone "FREQ" frequency  -- 0.001 to 102000 Hz, step by value; start 1000
-    ∷ alone "RSLP" (whole_row 0 2 0)
-    ∷ alone "HARM" (whole_row 1 19999 1)
-    ∷ alone "SLVL" level  -- 0.004 to 5.000 V by 0.002; start 1
-    ∷ alone "ISRC" (whole_row 0 3 0)
-    ∷ alone "ILIN" (whole_row 0 3 0)
-    ∷ alone "OFSL" (whole_row 0 3 1)
-    ∷ alone "IGND" (whole_row 0 1 0)
-    ∷ alone "ICPL" (whole_row 0 1 0)
-    ∷ alone "SYNC" (whole_row 0 1 0)
-    ∷ alone "SENS" (whole_row 0 26 26)
-    ∷ alone "RMOD" (whole_row 0 2 2)
-    ∷ alone "OFLT" (whole_row 0 19 8)
-    ∷ channelled "DDEF" 2 (whole_row 0 4 0 ∷ whole_row 0 2 0 ∷ [])
-    ∷ channelled "FPOP" 2 (whole_row 0 1 0 ∷ [])
-    ∷ channelled "OEXP" 3 (signed 2 10500 ∷ whole_row 0 2 0 ∷ [])  -- x: -105.00 to 105.00 by 0.01
-    ∷ channelled "AUXV" 4 (signed 3 10500 ∷ [])  -- -10.500 to 10.500 by 0.001
-    ∷ alone "SRAT" (whole_row 0 14 4)
-    ∷ alone "SEND" (whole_row 0 1 1)
-    ∷ alone "TSTR" (whole_row 0 1 0)
-    ∷ []
-
--- the same rows n times
-abbrev times : ℕ → List Row → List Row
-times zero rows = []
-times (suc n) rows = rows ++ times n rows
-
--- §5.1: the rows of a setting's entries, channel by channel: an entry (a term of our own) is one channel's one value
-abbrev pub rows_of : Setting → List Row
-rows_of s = times (max 1 s.channels) s.values
-
--- §5.1: the rows of all entries of a list of settings
-abbrev pub rows_in : List Setting → List Row
-rows_in [] = []
-rows_in (s ∷ more) = rows_of s ++ rows_in more
-
--- §5.1: how many entries a setting has
-abbrev pub size_of : Setting → ℕ
-size_of s = length (rows_of s)
-
--- §5.1: the first entry of the setting with a name, in a list of settings; past all entries where it is none's
-abbrev pub entry_in : List Setting → List ℕ → ℕ
-entry_in [] name = 0
-entry_in (s ∷ more) name = cond (same_bytes s.name name) 0 (size_of s + entry_in more name)
-
--- §5.1: the table entry by entry
+-- §5.1: the table: a row for each entry, in the order of the entries
 unfoldable pub table : List Row
-table = rows_in settings_table
-
--- The entries that rules name. `Entries` says that they are those of the table.
+table =
+    phase  -- PHAS: -360.00 to 729.99 by 0.01
+    ∷ whole_row 0 1 1  -- FMOD: 0 external, 1 internal; start 1
+    ∷ frequency  -- FREQ: 0.001 to 102000 Hz; start 1000 (step by value)
+    ∷ whole_row 0 2 0  -- RSLP: 0-2
+    ∷ whole_row 1 19999 1  -- HARM: 1-19999; start 1
+    ∷ level  -- SLVL: 0.004 to 5.000 V by 0.002; start 1
+    ∷ whole_row 0 3 0  -- ISRC: 0-3
+    ∷ whole_row 0 3 0  -- ILIN: 0-3
+    ∷ whole_row 0 3 1  -- OFSL: 0-3; start 1
+    ∷ whole_row 0 1 0  -- IGND: 0-1
+    ∷ whole_row 0 1 0  -- ICPL: 0-1
+    ∷ whole_row 0 1 0  -- SYNC: 0-1
+    ∷ whole_row 0 26 26  -- SENS: 0-26; start 26
+    ∷ whole_row 0 2 2  -- RMOD: 0-2; start 2
+    ∷ whole_row 0 19 8  -- OFLT: 0-19; start 8
+    ∷ whole_row 0 4 0  -- DDEF 1 j: 0-4
+    ∷ whole_row 0 2 0  -- DDEF 1 k: 0-2
+    ∷ whole_row 0 4 0  -- DDEF 2 j
+    ∷ whole_row 0 2 0  -- DDEF 2 k
+    ∷ whole_row 0 1 0  -- FPOP 1 j: 0-1
+    ∷ whole_row 0 1 0  -- FPOP 2 j
+    ∷ signed 2 10500  -- OEXP 1 x: -105.00 to 105.00 by 0.01
+    ∷ whole_row 0 2 0  -- OEXP 1 j: 0-2
+    ∷ signed 2 10500  -- OEXP 2 x
+    ∷ whole_row 0 2 0  -- OEXP 2 j
+    ∷ signed 2 10500  -- OEXP 3 x
+    ∷ whole_row 0 2 0  -- OEXP 3 j
+    ∷ signed 3 10500  -- AUXV 1 x: -10.500 to 10.500 by 0.001
+    ∷ signed 3 10500  -- AUXV 2 x
+    ∷ signed 3 10500  -- AUXV 3 x
+    ∷ signed 3 10500  -- AUXV 4 x
+    ∷ whole_row 0 14 4  -- SRAT: 0-14; start 4
+    ∷ whole_row 0 1 1  -- SEND: 0-1; start 1
+    ∷ whole_row 0 1 0  -- TSTR: 0-1
+    ∷ []
 
 -- PHAS, the phase
 abbrev pub phas : ℕ
@@ -164,6 +130,10 @@ fmod = 1
 abbrev pub freq : ℕ
 freq = 2
 
+-- RSLP, the reference's slope
+abbrev pub rslp : ℕ
+rslp = 3
+
 -- HARM, the harmonic
 abbrev pub harm : ℕ
 harm = 4
@@ -172,9 +142,57 @@ harm = 4
 abbrev pub slvl : ℕ
 slvl = 5
 
+-- ISRC, the input's source
+abbrev pub isrc : ℕ
+isrc = 6
+
+-- ILIN, the line filters
+abbrev pub ilin : ℕ
+ilin = 7
+
+-- OFSL, the filter's slope
+abbrev pub ofsl : ℕ
+ofsl = 8
+
+-- IGND, the input's shield
+abbrev pub ignd : ℕ
+ignd = 9
+
+-- ICPL, the input's coupling
+abbrev pub icpl : ℕ
+icpl = 10
+
+-- SYNC, the synchronous filter
+abbrev pub sync : ℕ
+sync = 11
+
+-- SENS, the sensitivity
+abbrev pub sens : ℕ
+sens = 12
+
+-- RMOD, the reserve
+abbrev pub rmod : ℕ
+rmod = 13
+
 -- OFLT, the time constant
 abbrev pub oflt : ℕ
 oflt = 14
+
+-- DDEF of channel 1: j, behind it k, and then channel 2
+abbrev pub ddef1j : ℕ
+ddef1j = 15
+
+-- FPOP of output 1, behind it that of output 2
+abbrev pub fpop1 : ℕ
+fpop1 = 19
+
+-- OEXP of channel 1: x, behind it j, and then channels 2 and 3
+abbrev pub oexp1x : ℕ
+oexp1x = 21
+
+-- AUXV of output 1, behind it those of outputs 2 to 4
+abbrev pub auxv1 : ℕ
+auxv1 = 27
 
 -- SRAT, the sample rate
 abbrev pub srat : ℕ

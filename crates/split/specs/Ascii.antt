@@ -1,5 +1,5 @@
 -- Quoted text as bytes, so that tables and examples can be written as text.
-use Rattle.std.specs.Prelude.{ℕ, zero, suc, ◌+◌, Bool, true, false, ◌&&◌, List, [], ◌∷◌, eqb}
+use Rattle.std.specs.Prelude.{ℕ, zero, suc, ◌+◌, List, [], ◌∷◌}
 use Prim.Native.Char.{code}
 use Prim.Native.String.{String, len, char_at}
 
@@ -11,13 +11,6 @@ bytes_from i (suc n) s = code (char_at s i) ∷ bytes_from (i + 1) n s
 -- the bytes of an ASCII text
 abbrev pub bytes : String → List ℕ
 bytes s = bytes_from 0 (len s) s
-
--- whether two lists are of the same bytes
-abbrev pub same_bytes : List ℕ → List ℕ → Bool
-same_bytes [] [] = true
-same_bytes [] (b ∷ t) = false
-same_bytes (a ∷ s) [] = false
-same_bytes (a ∷ s) (b ∷ t) = eqb a b && same_bytes s t
 
 -- §3.1 and §4.6: "," stands between arguments, and between the values of a reply
 abbrev pub comma : ℕ

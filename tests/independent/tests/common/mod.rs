@@ -50,11 +50,6 @@ pub fn script_why() -> PathBuf {
     proved("SCRIPT_WHY", "script_why")
 }
 
-/// The proved program that writes the command names.
-pub fn names() -> PathBuf {
-    proved("NAMES", "names")
-}
-
 /// The value of an environment variable; nothing where it is not set or empty.
 pub fn variable(name: &str) -> Option<PathBuf> {
     env::var_os(name).filter(|value| !value.is_empty()).map(PathBuf::from)

@@ -1,9 +1,9 @@
 -- `settings::table::row_of` meets its contract: each arm gives the table's row at its entry. Assumes nothing.
-use Prim.Native.Nat.{ℕ, zero-le}
+use Prim.Native.Nat.{ℕ, zero, suc, ◌≤◌, zero-le}
 use mathlib.Core.Path.{◌≡◌, sym, ◌∙◌}
+use native.Mathlib.Omega.{arith}
 use lib.ListN.{get_or-eq_default}
 use borrow.Author.Rules.{rules}
-use Rattle.laws.proofs.Arms.{Others, past-others}
 use Rattle.settings.specs.Table.{entries, table, row_of, no_row}
 use Rattle.settings.specs.declared.Row.{Row}
 use Rattle.settings.proofs.table.row_of.Statement.{statement}
@@ -13,10 +13,19 @@ use Rattle.settings.proofs.table.row_of.Tie as tie
 at : {r : Row} {entry k : ℕ} → entry ≡ k → r ≡ row_of k → r ≡ row_of entry
 at key row = rw key row
 
+-- what holds in the last arm: the entry is none of the first n
+abbrev Others : ℕ → ℕ → Type 0
+Others entry zero = Unit
+Others entry (suc n) = Others entry n × (entry ≡ n → ⊥)
+
+above_others : (entry n : ℕ) → Others entry n → n ≤ entry
+above_others entry zero others = zero-le
+above_others entry (suc n) others = let h = above_others entry n others.0 in omega (arith, others.1)
+
 -- the row past the table
-past : {r : Row} (entry : ℕ) → r ≡ no_row → Others 0 entry entries → r ≡ row_of entry
+past : {r : Row} (entry : ℕ) → r ≡ no_row → Others entry entries → r ≡ row_of entry
 unfolding row_of table
-past entry row others = row ∙ sym (get_or-eq_default table no_row (past-others 0 entry entries zero-le others))
+past entry row others = row ∙ sym (get_or-eq_default table no_row (above_others entry entries others))
 
 pub row_of_spec : {M : Type 1} → statement M
 unfolding row_of table

@@ -1,9 +1,9 @@
--- `mnemonic::word_of` meets its contract. Assumes nothing.
+-- `command::word_of` meets its contract. Assumes nothing.
 use native.Mathlib.Omega.{arith}
-use Rattle.mnemonic.proofs.Text.{four_word}
+use Rattle.command.proofs.Words.{four_word}
 use borrow.Author.Rules.{rules}
-use Rattle.mnemonic.proofs.word_of.Statement.{statement}
-use Rattle.mnemonic.proofs.word_of.Tie as tie
+use Rattle.command.proofs.word_of.Statement.{statement}
+use Rattle.command.proofs.word_of.Tie as tie
 
 cast-high : tie.Need-overflow-cast-high
 cast-high c = omega (arith, c.shared-slice-known.given 0)
@@ -30,24 +30,13 @@ add_low : tie.Need-overflow-add-low
 add_low c = omega (arith, c.before.shared-slice-known3.given 2, c.shared-slice-known4.given 3)
 
 mul-result : tie.Need-overflow-mul-result
-mul-result c =
-    let second = c.before.before in
-    omega (arith, second.before.shared-slice-known.given 0, second.shared-slice-known2.given 1)
+mul-result c = omega (arith, c.before.before.before.shared-slice-known.given 0, c.before.before.shared-slice-known2.given 1)
 
 add-result : tie.Need-overflow-add-result
-add-result c =
-    let third = c.before in
-    let second = third.before in
-    omega (
-      arith,
-      second.before.shared-slice-known.given 0,
-      second.shared-slice-known2.given 1,
-      third.shared-slice-known3.given 2,
-      c.shared-slice-known4.given 3,
-    )
+add-result c = omega (arith, c.before.before.before.shared-slice-known.given 0, c.before.before.shared-slice-known2.given 1, c.before.shared-slice-known3.given 2, c.shared-slice-known4.given 3)
 
 returns : tie.Need-returns
-returns c = let start = c.before.before.before.before in four_word start.args.text.now start.requires
+returns c = four_word c.before.before.before.before.args.text.now c.before.before.before.before.requires
 
 pub word_of_spec : {M : Type 1} → statement M
 word_of_spec =
