@@ -1,5 +1,7 @@
 // The program bench: hands the bytes of standard input to a fresh GPIB module (§2.2), and writes its replies to
 // standard output.
+#![tactic(auto)]
+
 use lockin::Module;
 
 // The module's serial number.

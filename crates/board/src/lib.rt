@@ -1,5 +1,7 @@
 // A run of bytes for a module that stays where it is: the record behind a reference is read, the call by value is made,
 // and the record that comes back is stored in its place.
+#![tactic(auto)]
+
 ghost use Rattle.std.specs.Prelude.{◌≡◌, length};
 ghost use Rattle.reply_buffer.specs.After.{Meets};
 ghost use Rattle.lockin.specs.Run.{run_call, run_result, run_numbers_of};

@@ -1,4 +1,6 @@
 // The script check for a console in C: a byte range and a capacity go in, one number comes out (include/glazeotter.h).
+#![tactic(auto)]
+
 ghost use Rattle.std.specs.Prelude.{◌≡◌};
 ghost use Rattle.verdict.specs.PackedNumber.{packed_number};
 ghost use Rattle.extreme_courses.specs.Model.{model_of};

@@ -9,7 +9,7 @@ use settings::Settings;
 const NO_CAPACITY: u32 = Settings::CAPACITY_MOST + 1;
 
 // What has been read of the input.
-#[derive(Drop)]
+#[derive(Clone, Copy)]
 pub struct Input {
     // Whether line one has ended.
     pub ending: bool,

@@ -1,5 +1,7 @@
 // The input of the programs over the script check, the capacity on line one and then the script, and the verdict that
 // they write on it.
+#![tactic(auto)]
+
 ghost use Rattle.std.specs.Prelude.{◌≡◌};
 ghost use Rattle.check_input.specs.VerdictLine.{line_bytes};
 ghost use Rattle.check_input.specs.Bytes.{memory};

@@ -11,7 +11,7 @@ use verdict::Verdict;
 const ROOM: usize = 66;
 
 // A line of text.
-#[derive(Drop)]
+#[derive(Clone, Copy)]
 pub struct VerdictLine {
     // Its bytes, then zeros.
     pub bytes: [u8; ROOM],

@@ -1,4 +1,6 @@
 // One command of a line, read from its text: a set, a query or an action with its arguments, or refusal 1 or 2.
+#![tactic(auto)]
+
 ghost use Rattle.std.specs.Prelude.{◌≡◌, ◌+◌, ◌-◌, ◌*◌, ◌≤◌, length, take};
 ghost use Rattle.mnemonic.specs.Parts.{word};
 ghost use Rattle.number.specs.Parts.{taken_of};
@@ -26,7 +28,7 @@ const REGISTER_MOST: u32 = 0xFF;
 const TRACES: u32 = 2;
 
 // The arguments of a set: a setting by its entry in the settings table, a value in the units of its entry, bias added.
-#[derive(Drop)]
+#[derive(Clone, Copy)]
 pub enum SetArgument {
     // One setting's value: entry, value.
     Value(usize, u32),
@@ -39,7 +41,7 @@ pub enum SetArgument {
 }
 
 // The arguments of a query. Traces and bins are numbered as in the command.
-#[derive(Drop)]
+#[derive(Clone, Copy)]
 pub enum QueryArgument {
     // One setting's value: entry.
     Value(usize),
@@ -62,7 +64,7 @@ pub enum QueryArgument {
 }
 
 // What kind of command it is, with its arguments.
-#[derive(Drop)]
+#[derive(Clone, Copy)]
 pub enum Kind {
     // Sets a value.
     Set(SetArgument),
@@ -73,14 +75,14 @@ pub enum Kind {
 }
 
 // A command that was read and whose arguments are in range.
-#[derive(Drop)]
+#[derive(Clone, Copy)]
 pub struct Command {
     // Set, query or action, with the arguments.
     pub kind: Kind,
 }
 
 // What a command's text is read as.
-#[derive(Drop)]
+#[derive(Clone, Copy)]
 pub enum Parsed {
     // No byte: does nothing, but counts as a place of its line.
     Empty,
@@ -91,7 +93,7 @@ pub enum Parsed {
 }
 
 // Whether a text is two arguments.
-#[derive(Drop)]
+#[derive(Clone, Copy)]
 enum Two {
     // Two, with the comma at this offset.
     At(usize),
@@ -100,7 +102,7 @@ enum Two {
 }
 
 // Whether a text is two arguments that are numbers.
-#[derive(Drop)]
+#[derive(Clone, Copy)]
 enum TwoNumbers {
     // Their values, in order.
     Values(Quantity, Quantity),
@@ -109,7 +111,7 @@ enum TwoNumbers {
 }
 
 // Whether a text is three arguments that are numbers.
-#[derive(Drop)]
+#[derive(Clone, Copy)]
 enum ThreeNumbers {
     // Their values, in order.
     Values(Quantity, Quantity, Quantity),

@@ -1,4 +1,6 @@
 // What a command changes: the settings, what events change too, the registers and the enables.
+#![tactic(auto)]
+
 ghost use Rattle.std.specs.Prelude.{◌≡◌};
 ghost use Rattle.effect.specs.Effect.{is_rst, with_pair, set_in, restored_by, settings_after};
 ghost use Rattle.effect.specs.Effect.{unstored, storage_by, storage_after, restarted_by, acquisition_by};

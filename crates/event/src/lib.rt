@@ -1,4 +1,6 @@
 // Events: a new latest pair, a tick, a trigger, a measured frequency, raised bits.
+#![tactic(auto)]
+
 ghost use Rattle.std.specs.Prelude.{◌≡◌, []};
 ghost use Rattle.reply_buffer.specs.After.{Meets};
 ghost use Rattle.event.specs.Event.{latest_taken, takes_frequency, with_external, measured_by, bits_raised};
@@ -12,7 +14,7 @@ use storage::StorageStep;
 const NOT_TAKEN: u8 = 0x08;
 
 // What happens to a module beside its input.
-#[derive(Drop)]
+#[derive(Clone, Copy)]
 pub enum Event {
     // A new latest pair: the first trace's point and the second's.
     Latest(u32, u32),
@@ -27,7 +29,7 @@ pub enum Event {
 }
 
 // What came of an event.
-#[derive(Drop)]
+#[derive(Clone, Copy)]
 pub struct EventEffect {
     // The state after it.
     pub state: State,

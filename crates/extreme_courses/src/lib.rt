@@ -1,5 +1,7 @@
 // The two courses that the check follows: what can happen before a line, which commands are refused, and what is
 // carried past the others.
+#![tactic(auto)]
+
 ghost use Rattle.std.specs.Prelude.{◌≡◌, ◌/◌};
 ghost use Rattle.settings.specs.Limits.{detection_limit};
 ghost use Rattle.extreme_courses.specs.Model.{model_of, model_fits};
@@ -14,7 +16,7 @@ use state::Acquisition;
 
 // §13.2: what the check is told of the modules that may run a script: how many points each of their traces holds, and
 // nothing else.
-#[derive(Drop)]
+#[derive(Clone, Copy)]
 pub struct Model {
     pub capacity: u32,
 }
@@ -39,7 +41,7 @@ pub fn model_fits(model: Model) -> bool
 }
 
 // What the check carries from command to command.
-#[derive(Drop)]
+#[derive(Clone, Copy)]
 pub struct Extremes {
     // Whether *RST has begun the script.
     pub begun: bool,

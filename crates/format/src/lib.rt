@@ -1,4 +1,6 @@
 // Replies' text: numbers written in decimal, plain, in a given width, or with decimals and a sign.
+#![tactic(auto)]
+
 ghost use Rattle.std.specs.Prelude.{◌≡◌, [], ◌∷◌, ◌+◌, ◌/◌, ◌%◌, ◌^◌};
 ghost use Rattle.number.specs.Number.{digit_zero};
 ghost use Rattle.format.specs.Text.{padded, digit_count, plain, fixed, sign, distance, signed_text, next};
@@ -11,7 +13,7 @@ const LIMIT: usize = 32;
 const ZERO: u32 = b'0' as u32;
 
 // A reply in text, built by value before it is sent.
-#[derive(Drop)]
+#[derive(Clone, Copy)]
 pub struct Text {
     // The text, then bytes that do not count.
     pub bytes: [u8; LIMIT],

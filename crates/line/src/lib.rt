@@ -1,4 +1,6 @@
 // A line: its commands one after the other, each lent the reply room from the bytes already written onward.
+#![tactic(auto)]
+
 ghost use Rattle.std.specs.Prelude.{◌≡◌, not, List, ℕ, ◌+◌, ◌≤◌, ◌<◌, length};
 ghost use Rattle.split.specs.Divide.{parts};
 ghost use Rattle.command.specs.Parsed.{parsed_of};
@@ -16,7 +18,7 @@ use outcome::{Answer, Outcome, Refusal};
 use state::State;
 
 // What one command leaves: the state, the number of reply bytes written, and whether it was refused.
-#[derive(Drop)]
+#[derive(Clone, Copy)]
 pub struct CommandResult {
     pub state: State,
     pub written: usize,
@@ -25,7 +27,7 @@ pub struct CommandResult {
 
 // A line on its way: the state, the number of reply bytes written, the answer so far, how many commands there were, and
 // whether the rest is dropped.
-#[derive(Drop)]
+#[derive(Clone, Copy)]
 pub struct Progress {
     pub state: State,
     pub at: usize,

@@ -1,4 +1,6 @@
 // A line's bytes as its commands are read: space and CR left out, letters made capitals.
+#![tactic(auto)]
+
 ghost use Rattle.std.specs.Prelude.{◌≡◌, ◌≤◌, take};
 ghost use Rattle.line_text.specs.Clean.{line_limit, is_dropped, capital, cleaned, shown};
 
@@ -9,7 +11,7 @@ pub const LINE: usize = 256;
 const CASE: u8 = b'a' - b'A';
 
 // A line as its commands are read.
-#[derive(Drop)]
+#[derive(Clone, Copy)]
 pub struct Cleaned {
     // The line, then bytes that do not count.
     pub bytes: [u8; LINE],

@@ -19,7 +19,7 @@ use queue::{LineEnd, Queue};
 use state::State;
 
 // What a run reports.
-#[derive(Drop)]
+#[derive(Clone, Copy)]
 pub struct RunReport {
     // How many of its bytes were taken: all, or those before the byte at which it stopped.
     pub taken: usize,
@@ -30,7 +30,7 @@ pub struct RunReport {
 }
 
 // The same in numbers.
-#[derive(Drop)]
+#[derive(Clone, Copy)]
 pub struct RunNumbers {
     // How many bytes were taken.
     pub taken: usize,
@@ -45,7 +45,7 @@ pub struct RunNumbers {
 }
 
 // A call with a run of bytes: the module after it, and its report.
-#[derive(Drop)]
+#[derive(Clone, Copy)]
 pub struct RunResult {
     pub after: Module,
     pub report: RunReport,
@@ -53,7 +53,7 @@ pub struct RunResult {
 
 // A run on its way: the module, how many bytes are taken and how many lines ended, the line of the first refusal, and
 // the report so far.
-#[derive(Drop)]
+#[derive(Clone, Copy)]
 struct RunProgress {
     after: Module,
     taken: usize,
@@ -63,7 +63,7 @@ struct RunProgress {
 }
 
 // What one more byte leaves of a run: the run with the byte, or the run as it was where it stops before the byte.
-#[derive(Drop)]
+#[derive(Clone, Copy)]
 struct RunStep {
     stopped: bool,
     progress: RunProgress,
@@ -71,7 +71,7 @@ struct RunStep {
 
 // A queue after bytes of a run of which none ended a line that can run, but for its bytes; how many bytes of the run
 // are then taken, and how many lines ended.
-#[derive(Drop)]
+#[derive(Clone, Copy)]
 struct QuietBytes {
     len: usize,
     discarding: bool,

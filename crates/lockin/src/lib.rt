@@ -1,5 +1,7 @@
 // The calls on one lock-in module: start, bytes one by one or in runs, lines handed over whole, events, and the status
 // byte between lines. Open this crate first.
+#![tactic(auto)]
+
 ghost use Rattle.std.specs.Prelude.{◌≡◌, [], ◌≤◌, length};
 ghost use Rattle.line_text.specs.Clean.{line_limit};
 ghost use Rattle.outcome.specs.Code.{number_of};
@@ -26,7 +28,7 @@ use settings::Settings;
 use state::{Installation, State};
 
 // A start: the module, and whether the start was refused.
-#[derive(Drop)]
+#[derive(Clone, Copy)]
 pub struct StartResult {
     pub after: Module,
     pub outcome: Outcome,
@@ -34,21 +36,21 @@ pub struct StartResult {
 
 // A call with a line or a byte: the module after it, and its report. A byte that ends no line reports that nothing is
 // refused, and length 0.
-#[derive(Drop)]
+#[derive(Clone, Copy)]
 pub struct LineResult {
     pub after: Module,
     pub report: Report,
 }
 
 // A call with an event: the module after it, and whether it was refused.
-#[derive(Drop)]
+#[derive(Clone, Copy)]
 pub struct EventResult {
     pub after: Module,
     pub outcome: Outcome,
 }
 
 // A serial poll: the status byte, 0 where the state was refused.
-#[derive(Drop)]
+#[derive(Clone, Copy)]
 pub struct PollResult {
     pub status: u8,
     pub outcome: Outcome,
@@ -93,7 +95,7 @@ pub fn start(serial: u32, port: u32, one: &[u32], two: &[u32]) -> StartResult
 }
 
 // What a line's end leaves of the state, and what is reported.
-#[derive(Drop)]
+#[derive(Clone, Copy)]
 struct StateResult {
     state: State,
     report: Report,

@@ -1,9 +1,11 @@
 // The command names, in one list in alphabetical order, and what each stands for.
+#![tactic(auto)]
+
 ghost use Rattle.std.specs.Prelude.{◌≡◌};
 ghost use Rattle.mnemonic.specs.Parts.{found_of};
 
 // The registers that a command reads, clears or enables.
-#[derive(Drop)]
+#[derive(Clone, Copy)]
 pub enum Register {
     // The standard event register.
     Standard,
@@ -16,7 +18,7 @@ pub enum Register {
 }
 
 // What is done at once, with no argument.
-#[derive(Drop)]
+#[derive(Clone, Copy)]
 pub enum Action {
     // The settings and storage go back to their start.
     Reset,
@@ -33,7 +35,7 @@ pub enum Action {
 }
 
 // How the points of a trace are sent.
-#[derive(Drop)]
+#[derive(Clone, Copy)]
 pub enum Form {
     // As words of the module's own format.
     Words,
@@ -42,7 +44,7 @@ pub enum Form {
 }
 
 // What a name stands for.
-#[derive(Drop)]
+#[derive(Clone, Copy)]
 pub enum Meaning {
     // A setting, by its entry in the settings table.
     Setting(usize),

@@ -1,4 +1,6 @@
 // A module: its state and its queue, fresh or at any time; its status byte; and refusals 9, 10 and 11.
+#![tactic(auto)]
+
 ghost use Rattle.std.specs.Prelude.{◌≡◌, length};
 ghost use Rattle.queue.specs.Queue.{line_limit};
 ghost use Rattle.queue.specs.Parts.{queue_of};
@@ -15,7 +17,7 @@ use status::Poll;
 // A module: its state, and the bytes that wait for their line's end. The queue stands first: behind a state whose
 // length is no multiple of 8, unused bytes would precede it, and its 256 bytes would be copied once more for each byte
 // that is taken.
-#[derive(Drop)]
+#[derive(Clone, Copy)]
 pub struct Module {
     pub queue: Queue,
     pub state: State,

@@ -1,4 +1,6 @@
 // Numbers: the quantity of one that was read, tested against a range and rounded to a step.
+#![tactic(auto)]
+
 ghost use Rattle.std.specs.Prelude.{◌≡◌, cond, ◌+◌, ◌<◌, ◌≤◌};
 ghost use Rattle.number.specs.Parts.{cap, taken_of, rounded_to, fits_range, placed_in, value_in};
 
@@ -13,7 +15,7 @@ pub const CAP: u64 = 0x100_0000_0000;
 const LARGEST: u64 = 0xFFFF_FFFF;
 
 // A number in an argument's units, as far as any range and step can ask: enough to test and to round it exactly.
-#[derive(Drop)]
+#[derive(Clone, Copy)]
 pub struct Quantity {
     // Whether it has a minus.
     pub negative: bool,
@@ -26,7 +28,7 @@ pub struct Quantity {
 }
 
 // What a text is read as.
-#[derive(Drop)]
+#[derive(Clone, Copy)]
 pub enum Reading {
     // A number, with its quantity.
     Number(Quantity),
@@ -36,7 +38,7 @@ pub enum Reading {
 
 // The values that an argument may have, in the argument's units. A value x is stored as x + bias, so as not to be
 // negative.
-#[derive(Drop)]
+#[derive(Clone, Copy)]
 pub struct Range {
     // What is added to a value where it is stored.
     pub bias: u32,
@@ -51,7 +53,7 @@ pub struct Range {
 }
 
 // What a range makes of an argument.
-#[derive(Drop)]
+#[derive(Clone, Copy)]
 pub enum Argument {
     // The value, rounded and with the bias added.
     Value(u32),

@@ -11,7 +11,7 @@ use super::{CAP, Quantity, Reading};
 const DIGIT_LIMIT: usize = 15;
 
 // What the digits of an exponent are read as.
-#[derive(Drop)]
+#[derive(Clone, Copy)]
 enum Short {
     // One or two digits: their number.
     Of(usize),
@@ -20,7 +20,7 @@ enum Short {
 }
 
 // What the text after "E" is read as.
-#[derive(Drop)]
+#[derive(Clone, Copy)]
 enum Exponent {
     // A power of ten: the digits by which the point moves to the right, and to the left.
     Power(usize, usize),

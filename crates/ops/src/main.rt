@@ -1,5 +1,6 @@
 // The program ops: operations on standard input, one a line, on one module, and an answer to each on standard output,
 // by docs/ops-protocol.md.
+#![tactic(auto)]
 
 // Runs the operations of all lines. A proved loop has to end, so this one counts its turns down, from a number that no
 // run uses up.

@@ -96,7 +96,7 @@ pub const RANGE_COUNT: u32 = 2;
 const LAST_BYTE: u32 = u8::MAX as u32;
 
 // How a field's value is written.
-#[derive(Drop)]
+#[derive(Clone, Copy)]
 pub enum FieldKind {
     // As a decimal number, at most this one.
     Number(u32),

@@ -1,5 +1,7 @@
 // The text of docs/ops-protocol.md: the operations and what their arguments say, the fields of a state and how they are
 // written, and buffers for the longest of all these.
+#![tactic(auto)]
+
 mod alter;
 mod buffers;
 pub mod fields;

@@ -34,7 +34,7 @@ pub const WORD_DIGITS: usize = 8;
 const BYTE_DIGITS: usize = 2;
 
 // What a line of text asks for.
-#[derive(Drop)]
+#[derive(Clone, Copy)]
 pub enum Operation {
     // A fresh module: its serial number, its port, and the lengths of its traces.
     Start(u32, u32, usize, usize),
@@ -61,7 +61,7 @@ pub enum Operation {
 }
 
 // An argument that was read.
-#[derive(Drop)]
+#[derive(Clone, Copy)]
 enum OperationArgument {
     // What it says, and where the next one starts: past the text's end behind the last.
     Value(u32, usize),
@@ -70,7 +70,7 @@ enum OperationArgument {
 }
 
 // The arguments of an operation.
-#[derive(Drop)]
+#[derive(Clone, Copy)]
 struct Arguments {
     // What each says as a number, of bytes in hex how many they are.
     values: [u32; ARGUMENTS],

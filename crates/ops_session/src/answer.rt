@@ -9,7 +9,7 @@ const SHORT_ANSWER: usize = 512;
 const SHORT_REPLY: usize = 224;
 
 // What a call reports.
-#[derive(Drop)]
+#[derive(Clone, Copy)]
 pub enum CallReport {
     // Of a line or a byte.
     Line(Report),

@@ -4,7 +4,7 @@ use crate::reject;
 use lockin::{Event, LineResult, Module, RunResult};
 
 // What a call hands to the module.
-#[derive(Drop)]
+#[derive(Clone, Copy)]
 pub enum CallInput {
     // A line, whole.
     Line,
@@ -15,7 +15,7 @@ pub enum CallInput {
 }
 
 // A call: the module after it, and what it reports.
-#[derive(Drop)]
+#[derive(Clone, Copy)]
 struct CallResult {
     after: Module,
     report: CallReport,

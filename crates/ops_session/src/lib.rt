@@ -1,4 +1,6 @@
 // What each operation of docs/ops-protocol.md does to one module and its traces, and the answer that it writes.
+#![tactic(auto)]
+
 mod alter;
 mod answer;
 mod call;
@@ -11,7 +13,7 @@ use ops_protocol::Operation;
 use script::Model;
 
 // The module that the operations act on.
-#[derive(Drop)]
+#[derive(Clone, Copy)]
 pub struct Session {
     // The module.
     pub module: Module,

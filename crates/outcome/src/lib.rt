@@ -1,11 +1,13 @@
 // The refusals, with the number and the standard event bit of each; a line's answer, which is its first refusal (§2.7),
 // and what a call tells its caller about a line (§1.5).
+#![tactic(auto)]
+
 ghost use Rattle.std.specs.Prelude.{◌≡◌};
 ghost use Rattle.outcome.specs.Code.{code_of, number_of};
 ghost use Rattle.outcome.specs.Answer.{first_of, drops, numbers_of};
 
 // Why a command, a line, an event, a script or a state is not taken.
-#[derive(Drop)]
+#[derive(Clone, Copy)]
 pub enum Refusal {
     // 1: no such name, the name in another form, another count of arguments, or an argument that is no number.
     Malformed,
@@ -32,7 +34,7 @@ pub enum Refusal {
 }
 
 // How a command, an event or a start ends: done, or refused.
-#[derive(Drop)]
+#[derive(Clone, Copy)]
 pub enum Outcome {
     // Nothing is refused.
     Done,
@@ -41,7 +43,7 @@ pub enum Outcome {
 }
 
 // A line's answer: nothing refused, or the first refusal and the place of its command, from 1.
-#[derive(Drop)]
+#[derive(Clone, Copy)]
 pub enum Answer {
     // No command is refused.
     Passed,
@@ -50,7 +52,7 @@ pub enum Answer {
 }
 
 // What a call with a line or a byte reports.
-#[derive(Drop)]
+#[derive(Clone, Copy)]
 pub struct Report {
     // The line's answer.
     pub answer: Answer,
@@ -59,7 +61,7 @@ pub struct Report {
 }
 
 // The same in numbers.
-#[derive(Drop)]
+#[derive(Clone, Copy)]
 pub struct ReportNumbers {
     // The refusal's number, 0 where nothing is refused.
     pub refusal: u8,
@@ -70,7 +72,7 @@ pub struct ReportNumbers {
 }
 
 // The number of a refusal, and the standard event bits that it sets.
-#[derive(Drop)]
+#[derive(Clone, Copy)]
 pub struct Code {
     // The number.
     pub number: u8,

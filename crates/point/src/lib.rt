@@ -1,4 +1,6 @@
 // Points of a trace: which words are legal, the IEEE single that TRCB sends for one, and a word's four bytes.
+#![tactic(auto)]
+
 ghost use Rattle.std.specs.Prelude.{false, ◌≡◌, ◌≤◌, ◌<◌};
 ghost use Rattle.point.specs.Point.{magnitude_most, exponent_most, is_legal, is_negative};
 ghost use Rattle.point.specs.Point.{magnitude_of, exponent_byte, single_of, float_of};

@@ -1,4 +1,6 @@
 // What a command needs of the state: refusal 3.
+#![tactic(auto)]
+
 ghost use Rattle.std.specs.Prelude.{◌≡◌};
 ghost use Rattle.precondition.specs.Allowed.{value_allowed, stays_within_limit, set_allowed, query_allowed, is_allowed};
 

@@ -1,4 +1,6 @@
 // The queue of bytes that wait for their line's end.
+#![tactic(auto)]
+
 ghost use Rattle.std.specs.Prelude.{◌≡◌, true, false, ◌+◌, ◌≤◌, min, length, take, drop};
 ghost use Rattle.queue.specs.Queue.{line_limit, empty_queue, ends_line, is_marked, appended_of, received_of};
 ghost use Rattle.queue.specs.Queue.{is_end, no_end, is_valid};
@@ -19,7 +21,7 @@ const BLOCK: usize = 16;
 const LAST_BLOCK: usize = LINE - BLOCK;
 
 // The bytes of a line that has not ended.
-#[derive(Drop)]
+#[derive(Clone, Copy)]
 pub struct Queue {
     // The bytes that wait, then bytes that do not count.
     pub bytes: [u8; LINE],
@@ -30,7 +32,7 @@ pub struct Queue {
 }
 
 // What a byte ends.
-#[derive(Drop)]
+#[derive(Clone, Copy)]
 pub enum LineEnd {
     // No line.
     Nothing,
@@ -41,7 +43,7 @@ pub enum LineEnd {
 }
 
 // What a byte does to a queue, whose bytes are neither read nor copied.
-#[derive(Drop)]
+#[derive(Clone, Copy)]
 pub struct QueueStep {
     // Whether the byte is stored after those that wait.
     pub stores: bool,

@@ -1,4 +1,6 @@
 // What a query replies: a text with its end, or points of a trace.
+#![tactic(auto)]
+
 ghost use Rattle.std.specs.Prelude.{◌≡◌, List, [], ℕ, ◌+◌, length};
 ghost use Rattle.storage.specs.Storage.{oldest_of};
 ghost use Rattle.reply_buffer.specs.Parts.{sent_by, Sends};

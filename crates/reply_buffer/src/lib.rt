@@ -1,4 +1,6 @@
 // Reply bytes written into the room that is lent: a text, or points of a trace.
+#![tactic(auto)]
+
 ghost use Rattle.std.specs.Prelude.{◌≡◌, ◌++◌, ◌+◌, ◌*◌, ◌<◌, ◌≤◌, length, take, drop};
 ghost use Rattle.format.specs.Parts.{bytes_of};
 ghost use Rattle.point.specs.Bytes.{little_endian};
@@ -9,7 +11,7 @@ use format::Text;
 use mnemonic::Form;
 
 // Whether a reply fits, and how many bytes of it were written.
-#[derive(Drop)]
+#[derive(Clone, Copy)]
 pub struct Sent {
     pub fits: bool,
     pub written: usize,

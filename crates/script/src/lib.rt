@@ -1,4 +1,6 @@
 // The script check: whether any bench can refuse a command of a script, found without running it.
+#![tactic(auto)]
+
 ghost use Rattle.std.specs.Prelude.{◌≡◌, ◌≤◌, ◌<◌, length};
 ghost use Rattle.split.specs.Divide.{parts};
 ghost use Rattle.line_text.specs.Clean.{line_limit};
@@ -15,7 +17,7 @@ use outcome::{Answer, Outcome};
 pub use verdict::{Verdict, packed_number};
 
 // A line's commands: the first refusal among them, and what is carried past them where there is none.
-#[derive(Drop)]
+#[derive(Clone, Copy)]
 pub struct LineCheck {
     pub extremes: Extremes,
     pub answer: Answer,

@@ -11,7 +11,7 @@ const SERIAL: u32 = 0;
 const PORT: u32 = state::GPIB as u32;
 
 // Which course is run, and how.
-#[derive(Drop)]
+#[derive(Clone, Copy)]
 pub struct Course {
     // Whether events happen before each line.
     pub has_events: bool,

@@ -1,5 +1,7 @@
 // The program script_why: the script check of standard input, and for a refusal 3 a course that shows it, as operations
 // of docs/ops-protocol.md.
+#![tactic(auto)]
+
 ghost use Rattle.std.specs.Prelude.{◌≡◌, length};
 
 mod course;

@@ -1,4 +1,6 @@
 // The settings of a lock-in module, by the settings table (§5.1).
+#![tactic(auto)]
+
 ghost use Rattle.std.specs.Prelude.{◌≡◌, ◌&&◌, ◌%◌, leb, eqb};
 ghost use Rattle.settings.specs.Table.{entries, row_of, start_settings, turned_of, next_entry, value_of, with_value};
 ghost use Rattle.settings.specs.Frequency.{frequency_step, is_internal, in_force, detection_of, frequency_in_range};
@@ -130,7 +132,7 @@ pub const SHORTENED: u8 = 1 << 5;
 const TO_TURN: u32 = table::TURN - table::PHASE_LEAST;
 
 // A setting's row of the table. A value of x units of the last decimal is kept as x + bias, and so are all values here.
-#[derive(Drop)]
+#[derive(Clone, Copy)]
 pub struct Row {
     // What is added to a value, so that none is negative.
     pub bias: u32,
@@ -155,14 +157,14 @@ pub struct Row {
 }
 
 // Every setting's value, by entry.
-#[derive(Drop)]
+#[derive(Clone, Copy)]
 pub struct Settings {
     // The values with their bias.
     pub values: [u32; ENTRIES],
 }
 
 // The frequency range: which time constants there are goes by it.
-#[derive(Drop)]
+#[derive(Clone, Copy)]
 pub enum FrequencyRange {
     // The one above the band: no long time constants.
     Upper,
@@ -171,7 +173,7 @@ pub enum FrequencyRange {
 }
 
 // What the range does to the rest of a state.
-#[derive(Drop)]
+#[derive(Clone, Copy)]
 pub struct RangeEffect {
     // The time constant after it.
     pub constant: u32,

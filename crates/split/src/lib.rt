@@ -1,4 +1,6 @@
 // Bytes divided at a separator: where the first part ends.
+#![tactic(auto)]
+
 ghost use Rattle.std.specs.Prelude.{◌≡◌, ◌+◌, ◌≤◌, max, length, drop};
 ghost use Rattle.split.specs.Divide.{span};
 

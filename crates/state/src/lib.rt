@@ -1,5 +1,7 @@
 // The state of a module but for its queue: settings, frequencies, storage, status, the latest pair, and what is fixed
 // at start.
+#![tactic(auto)]
+
 ghost use Rattle.std.specs.Prelude.{◌≡◌};
 ghost use Rattle.state.specs.State.{start_acquisition, start_state, range_settled, settled, with_error_bit};
 ghost use Rattle.state.specs.State.{with_storage_of, sampling_of};
@@ -18,7 +20,7 @@ pub use queue::{GPIB, RS232};
 pub const SERIAL_MOST: u32 = 99999;
 
 // What is fixed at start.
-#[derive(Drop)]
+#[derive(Clone, Copy)]
 pub struct Installation {
     // The serial number, at most SERIAL_MOST.
     pub serial: u32,
@@ -29,7 +31,7 @@ pub struct Installation {
 }
 
 // A point for each trace.
-#[derive(Drop)]
+#[derive(Clone, Copy)]
 pub struct Pair {
     // The first trace's point.
     pub one: u32,
@@ -38,7 +40,7 @@ pub struct Pair {
 }
 
 // What events change too.
-#[derive(Drop)]
+#[derive(Clone, Copy)]
 pub struct Acquisition {
     // The last measured external frequency, in units of 0.1 mHz.
     pub external: u32,
@@ -50,7 +52,7 @@ pub struct Acquisition {
 
 // The state. Only `State::start`, `Acquisition::start` and `range_settled` list their fields: every other function
 // changes a copy.
-#[derive(Drop)]
+#[derive(Clone, Copy)]
 pub struct State {
     // The value of each setting.
     pub settings: Settings,

@@ -1,4 +1,6 @@
 // The event registers, their enables and the status byte.
+#![tactic(auto)]
+
 ghost use Rattle.std.specs.Prelude.{◌≡◌, ◌<◌};
 ghost use Rattle.std.specs.Int.Bits.{bit_or};
 ghost use Rattle.status.specs.Bits.{bit_of, without_bit, with_bit, meets, only, flag};
@@ -37,7 +39,7 @@ const SERVICE_BIT: u32 = 6;
 const SERVICE_UNUSED: u8 = 0x40;
 
 // The event registers.
-#[derive(Drop)]
+#[derive(Clone, Copy)]
 pub struct Registers {
     // What *ESR? replies.
     pub standard: u8,
@@ -48,7 +50,7 @@ pub struct Registers {
 }
 
 // The enables: which bits of a register set a bit of the status byte.
-#[derive(Drop)]
+#[derive(Clone, Copy)]
 pub struct Enables {
     // *ESE, for the standard event register.
     pub standard: u8,
@@ -61,7 +63,7 @@ pub struct Enables {
 }
 
 // The bits of the status byte that no register gives.
-#[derive(Drop)]
+#[derive(Clone, Copy)]
 pub struct Poll {
     // Storage is reset or done.
     pub at_rest: bool,

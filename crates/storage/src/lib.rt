@@ -1,4 +1,6 @@
 // Storage of points: its phase, the points held and the slot that the next point goes to.
+#![tactic(auto)]
+
 ghost use Rattle.std.specs.Prelude.{◌≡◌, set};
 ghost use Rattle.storage.specs.Storage.{number, is_reset, is_running, is_paused, is_done, at_rest};
 ghost use Rattle.storage.specs.Storage.{emptied_storage, started_of, paused_of, readied_of, ticked_of, triggered_of};
@@ -6,7 +8,7 @@ ghost use Rattle.storage.specs.Storage.{next_slot, held_after, full_in_one_shot,
 ghost use Rattle.storage.specs.Storage.{slots_kept, done_kept, reset_kept, is_valid};
 
 // What storage is doing.
-#[derive(Drop)]
+#[derive(Clone, Copy)]
 pub enum Phase {
     // Empty, and not begun.
     Reset,
@@ -19,7 +21,7 @@ pub enum Phase {
 }
 
 // Storage of points, the points themselves aside.
-#[derive(Drop)]
+#[derive(Clone, Copy)]
 pub struct Storage {
     // What it is doing.
     pub phase: Phase,
@@ -30,7 +32,7 @@ pub struct Storage {
 }
 
 // The settings that storing goes by.
-#[derive(Drop)]
+#[derive(Clone, Copy)]
 pub struct Sampling {
     // SRAT: the rate, or EXTERNAL_RATE.
     pub rate: u32,
@@ -41,7 +43,7 @@ pub struct Sampling {
 }
 
 // What a trigger or a tick does.
-#[derive(Drop)]
+#[derive(Clone, Copy)]
 pub struct StorageStep {
     // Storage after it.
     pub storage: Storage,

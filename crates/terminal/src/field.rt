@@ -4,7 +4,7 @@ ghost use Rattle.std.specs.Prelude.{◌≤◌};
 use crate::hex::digit_value;
 
 // What a text reads as, where a number is asked for.
-#[derive(Drop)]
+#[derive(Clone, Copy)]
 pub enum Number {
     // This number.
     Value(u32),

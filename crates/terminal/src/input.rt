@@ -5,7 +5,7 @@ use crate::output::{bytes_from, first_bytes};
 use libc::STDIN_FILENO;
 
 // A line of the input, and where in a chunk the bytes behind it lie.
-#[derive(Drop)]
+#[derive(Clone, Copy)]
 pub struct Line {
     // How many bytes the line has; one past the buffer's length where the buffer is too small for it.
     pub len: usize,

@@ -1,5 +1,7 @@
 // Text that a program reads from standard input and writes to standard output: chunks and lines, what the parts of a
 // line say, hex, and bytes that wait in a buffer until they are written out.
+#![tactic(auto)]
+
 mod field;
 mod hex;
 mod input;

@@ -1,11 +1,13 @@
 // The script check's verdict, and the same as one number for a caller in C.
+#![tactic(auto)]
+
 ghost use Rattle.std.specs.Prelude.{◌≡◌, min};
 ghost use Rattle.verdict.specs.PackedNumber.{line_most, place_most, packed, packed_number};
 
 use outcome::Refusal;
 
 // What the script check says.
-#[derive(Drop)]
+#[derive(Clone, Copy)]
 pub enum Verdict {
     // No course refuses a command of the script.
     Fine,
