@@ -57,10 +57,10 @@ pub fn decode_bytes(text: &[u8], bytes: &mut [u8]) -> Number {
 }
 
 // Writes a number in hex with at least `least` digits.
-pub fn write_hex(out: &mut [u8], at: usize, value: u64, least: usize) -> usize {
+pub fn write_hex(rt: &impl Print, out: &mut [u8], at: usize, value: u64, least: usize) -> usize {
     let mut digits = [0u8; 16];
     let n = io::hex(value, least, &mut digits);
-    write_bytes(out, at, &digits[0..n])
+    write_bytes(rt, out, at, &digits[0..n])
 }
 
 // The hex digit of a number's last four bits.
@@ -73,9 +73,9 @@ fn digit_of(value: u8) -> u8 {
 }
 
 // Writes a byte as two hex digits.
-fn write_hex_byte(out: &mut [u8], at: usize, b: u8) -> usize {
-    let second = write_byte(out, at, digit_of(b / 16));
-    write_byte(out, second, digit_of(b))
+fn write_hex_byte(rt: &impl Print, out: &mut [u8], at: usize, b: u8) -> usize {
+    let second = write_byte(rt, out, at, digit_of(b / 16));
+    write_byte(rt, out, second, digit_of(b))
 }
 
 // Stores a byte as two hex digits, at an index and behind it.
@@ -99,9 +99,9 @@ fn store_hex_bytes(out: &mut [u8], at: usize, bytes: &[u8]) -> usize
 }
 
 // Writes bytes in hex, `-` where there are none.
-pub fn write_hex_bytes(out: &mut [u8], at: usize, bytes: &[u8]) -> usize {
+pub fn write_hex_bytes(rt: &impl Print, out: &mut [u8], at: usize, bytes: &[u8]) -> usize {
     if bytes.len() == 0 {
-        return write_byte(out, at, b'-');
+        return write_byte(rt, out, at, b'-');
     }
     if at < out.len() {
         if bytes.len() <= (out.len() - at) / 2 {
@@ -111,7 +111,7 @@ pub fn write_hex_bytes(out: &mut [u8], at: usize, bytes: &[u8]) -> usize {
     let mut end = at;
     let mut i = 0;
     while i < bytes.len() {
-        end = write_hex_byte(out, end, bytes[i]);
+        end = write_hex_byte(rt, out, end, bytes[i]);
         i += 1;
     }
     end

@@ -2,7 +2,7 @@
 ghost use Rattle.io.specs.Counts.{IsPrefixLen};
 
 use crate::output::{bytes_from, first_bytes};
-use libc::STDIN_FILENO;
+use std::io::Read;
 
 // A line of the input, and where in a chunk the bytes behind it lie.
 #[derive(Clone, Copy)]
@@ -27,12 +27,15 @@ pub fn before_first_line() -> Line {
     }
 }
 
-// Reads once: gives how many bytes were read to the start of the chunk, 0 where the input has ended.
-pub fn next_chunk(chunk: &mut [u8]) -> usize
+// Reads once: gives how many bytes were read to the start of the chunk, 0 where the input has ended. A read that fails
+// ends the input.
+pub fn next_chunk(input: &mut impl Read, chunk: &mut [u8]) -> usize
     ensures { IsPrefixLen result chunk.new }
 {
-    let got = libc::read(STDIN_FILENO, chunk);
-    io::count(got, chunk)
+    match input.read(chunk) {
+        Ok(n) => n,
+        Err(_) => 0,
+    }
 }
 
 // Appends a part to the first `len` bytes of a line, and gives the line's length then, as in `Line`.
@@ -66,7 +69,7 @@ fn append_rest(latest: Line, chunk: &[u8], line: &mut [u8]) -> Line {
 
 // Stores the line behind the latest one at the start of a buffer: from the bytes of the chunk that are left, then from
 // those that are read. A proved loop has to end, so this one counts its turns down, from a number that no run uses up.
-pub fn next_line(latest: Line, chunk: &mut [u8], line: &mut [u8]) -> Line {
+pub fn next_line(input: &mut impl Read, latest: Line, chunk: &mut [u8], line: &mut [u8]) -> Line {
     let mut next = Line {
         len: 0,
         ending: false,
@@ -80,7 +83,7 @@ pub fn next_line(latest: Line, chunk: &mut [u8], line: &mut [u8]) -> Line {
         if ending {
             return next;
         }
-        let n = next_chunk(chunk);
+        let n = next_chunk(input, chunk);
         if n == 0 {
             return next;
         }
