@@ -3,6 +3,7 @@
 #![tactic(auto)]
 
 use lockin::Module;
+use std::io::Read;
 
 // The module's serial number.
 const SERIAL: u32 = 42;
@@ -21,6 +22,7 @@ const ROOM: usize = 8192;
 // Hands bytes without an end mark to the module, as one run. Where it stops, its replies are written, and what is left
 // is a run of its own; none comes behind a run that takes nothing.
 fn run_chunk(
+    rt: &impl Print,
     m: Module,
     chunk: &[u8],
     one: &mut [u32],
@@ -33,7 +35,7 @@ fn run_chunk(
         let ran = lockin::take_run(latest, &chunk[at..], false, one, two, reply);
         let taken = ran.report.taken;
         latest = ran.after;
-        terminal::flush(reply, ran.report.report.length);
+        terminal::flush(rt, reply, ran.report.report.length);
         if taken == 0 {
             return latest;
         }
@@ -47,25 +49,39 @@ fn run_chunk(
 
 // Hands all of the input to the module. A proved loop has to end, so this one counts its turns down, from a number that
 // no run uses up.
-fn run_input(m: Module, one: &mut [u32], two: &mut [u32], reply: &mut [u8]) {
+fn run_input(
+    rt: &impl Print,
+    reader: &mut impl Read,
+    m: Module,
+    one: &mut [u32],
+    two: &mut [u32],
+    reply: &mut [u8],
+) {
     let mut chunk = io::large_buffer();
     let mut latest = m;
     let mut turns = u64::MAX;
     while turns > 0 {
-        let n = terminal::next_chunk(&mut chunk);
+        let n = terminal::next_chunk(reader, &mut chunk);
         if n == 0 {
             return;
         }
-        latest = run_chunk(latest, &chunk[..n], one, two, reply);
+        latest = run_chunk(rt, latest, &chunk[..n], one, two, reply);
         turns -= 1;
     }
 }
 
 // Runs the module over traces and a reply buffer of its own.
-fn main() {
+fn main(rt: HostRuntime) {
     let mut one = [0u32; CAPACITY];
     let mut two = [0u32; CAPACITY];
     let mut reply = [0u8; ROOM];
     let started = lockin::start(SERIAL, PORT, &one, &two);
-    run_input(started.after, &mut one, &mut two, &mut reply);
+    run_input(
+        &rt,
+        &mut rt.stdin(),
+        started.after,
+        &mut one,
+        &mut two,
+        &mut reply,
+    );
 }

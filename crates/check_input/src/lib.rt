@@ -16,6 +16,7 @@ pub use bytes::Input;
 use outcome::Refusal;
 use script::Model;
 pub use source::{read_input, script_buffer};
+use std::io::Read;
 use verdict::Verdict;
 pub use verdict_line::{VerdictLine, report_verdict, write_line};
 
@@ -50,11 +51,11 @@ pub fn output_line(input: Input, script: &[u8]) -> VerdictLine
     verdict_line::verdict_line_of(verdict_from(input, script))
 }
 
-// Reads standard input to its end, and gives the line that the check program writes.
-pub fn read_output() -> VerdictLine
+// Reads the input to its end, and gives the line that the check program writes.
+pub fn read_output(reader: &mut impl Read) -> VerdictLine
     ensures { OutputOfSome (line_bytes result) }
 {
     let mut script = script_buffer();
-    let input = read_input(&mut script);
+    let input = read_input(reader, &mut script);
     output_line(input, &script)
 }

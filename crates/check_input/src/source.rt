@@ -6,6 +6,7 @@ ghost use Rattle.check_input.specs.Whole.{Reads};
 
 use crate::SCRIPT_LIMIT;
 use crate::bytes::{Input, store_bytes};
+use std::io::Read;
 
 // Room for a script, and for one byte more, which shows that there are more than the limit.
 const ROOM: usize = SCRIPT_LIMIT + 1;
@@ -17,16 +18,16 @@ pub fn script_buffer() -> [u8; ROOM]
     [0; ROOM]
 }
 
-// Reads all of standard input and stores the script's bytes at the start of a buffer, as far as there is room. A proved
+// Reads all of the input and stores the script's bytes at the start of a buffer, as far as there is room. A proved
 // loop has to end, so this one counts its turns down, from a number that no run uses up.
-pub fn read_input(script: &mut [u8]) -> Input
+pub fn read_input(reader: &mut impl Read, script: &mut [u8]) -> Input
     ensures { Reads (memory start_input script.old) (memory result script.new) }
 {
     let mut chunk = io::large_buffer();
     let mut input = Input::start();
     let mut turns = u64::MAX;
     while turns > 0 {
-        let n = terminal::next_chunk(&mut chunk);
+        let n = terminal::next_chunk(reader, &mut chunk);
         if n == 0 {
             return input;
         }

@@ -84,12 +84,12 @@ pub fn verdict_line_of(verdict: Verdict) -> VerdictLine
 }
 
 // Writes a line to standard output.
-pub fn write_line(line: VerdictLine) {
+pub fn write_line(rt: &impl Print, line: VerdictLine) {
     let bytes = line.bytes;
-    terminal::flush(&bytes, line.len);
+    terminal::flush(rt, &bytes, line.len);
 }
 
 // Writes a verdict to standard output, as a line.
-pub fn report_verdict(verdict: Verdict) {
-    write_line(verdict_line_of(verdict));
+pub fn report_verdict(rt: &impl Print, verdict: Verdict) {
+    write_line(rt, verdict_line_of(verdict));
 }

@@ -4,7 +4,8 @@
 
 // Runs the operations of all lines. A proved loop has to end, so this one counts its turns down, from a number that no
 // run uses up.
-fn main() {
+fn main(rt: HostRuntime) {
+    let mut stdin = rt.stdin();
     let mut chunk = io::large_buffer();
     let mut line = ops_protocol::line_buffer();
     let mut bytes = io::large_buffer();
@@ -14,8 +15,10 @@ fn main() {
     let mut next = terminal::before_first_line();
     let mut turns = u64::MAX;
     while turns > 0 {
-        next = terminal::next_line(next, &mut chunk, &mut line);
-        session = ops_session::run_line(session, &line, next.len, &mut bytes, &mut one, &mut two);
+        next = terminal::next_line(&mut stdin, next, &mut chunk, &mut line);
+        session = ops_session::run_line(
+            &rt, session, &line, next.len, &mut bytes, &mut one, &mut two,
+        );
         let ending = next.ending;
         if ending {} else {
             return;

@@ -155,38 +155,38 @@ pub fn index_of_range(word: &[u8]) -> usize {
 
 // Writes what stands before a field's value: a space, the name and `=`, no space before the first field; a comma
 // between the parts of a list.
-pub fn write_name(out: &mut [u8], at: usize, name: &[u8], field: usize) -> usize {
+pub fn write_name(rt: &impl Print, out: &mut [u8], at: usize, name: &[u8], field: usize) -> usize {
     let n = split::span_of(name, b'.');
     if n + 1 < name.len() {
         if name[n + 1] != b'0' {
-            return write_byte(out, at, b',');
+            return write_byte(rt, out, at, b',');
         }
     }
     if field == SERIAL {
-        let first = write_bytes(out, at, &name[0..n]);
-        return write_byte(out, first, b'=');
+        let first = write_bytes(rt, out, at, &name[0..n]);
+        return write_byte(rt, out, first, b'=');
     }
-    let space = write_byte(out, at, b' ');
-    let end = write_bytes(out, space, &name[0..n]);
-    write_byte(out, end, b'=')
+    let space = write_byte(rt, out, at, b' ');
+    let end = write_bytes(rt, out, space, &name[0..n]);
+    write_byte(rt, out, end, b'=')
 }
 
 // Writes the word of the phase with a number.
-pub fn write_phase(out: &mut [u8], at: usize, number: u32) -> usize {
+pub fn write_phase(rt: &impl Print, out: &mut [u8], at: usize, number: u32) -> usize {
     let words = PHASES;
     match number {
-        0 => write_bytes(out, at, &words[0..5]),
-        1 => write_bytes(out, at, &words[6..13]),
-        2 => write_bytes(out, at, &words[14..20]),
-        _ => write_bytes(out, at, &words[21..25]),
+        0 => write_bytes(rt, out, at, &words[0..5]),
+        1 => write_bytes(rt, out, at, &words[6..13]),
+        2 => write_bytes(rt, out, at, &words[14..20]),
+        _ => write_bytes(rt, out, at, &words[21..25]),
     }
 }
 
 // Writes the word of the range with a number.
-pub fn write_range(out: &mut [u8], at: usize, number: u32) -> usize {
+pub fn write_range(rt: &impl Print, out: &mut [u8], at: usize, number: u32) -> usize {
     let words = RANGES;
     match number {
-        0 => write_bytes(out, at, &words[0..5]),
-        _ => write_bytes(out, at, &words[6..11]),
+        0 => write_bytes(rt, out, at, &words[0..5]),
+        _ => write_bytes(rt, out, at, &words[6..11]),
     }
 }

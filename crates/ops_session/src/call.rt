@@ -59,6 +59,7 @@ fn call_module(
 
 // Hands a line, a byte or a run to the module, and writes the answer.
 fn call_and_report(
+    rt: &impl Print,
     m: Module,
     input: CallInput,
     bytes: &[u8],
@@ -68,12 +69,13 @@ fn call_and_report(
 ) -> Module {
     let called = call_module(m, input, bytes, one, two, reply);
     let report = called.report;
-    report_reply(report, reply);
+    report_reply(rt, report, reply);
     called.after
 }
 
 // Hands a line, a byte or a run to the module, with a reply buffer of `room` bytes.
 pub fn run_call(
+    rt: &impl Print,
     m: Module,
     input: CallInput,
     bytes: &[u8],
@@ -83,26 +85,33 @@ pub fn run_call(
 ) -> Module {
     if room <= ops_protocol::SMALL_REPLY {
         let mut reply = ops_protocol::small_reply_buffer();
-        return call_and_report(m, input, bytes, one, two, &mut reply[0..room]);
+        return call_and_report(rt, m, input, bytes, one, two, &mut reply[0..room]);
     }
     if (ops_protocol::REPLY_MOST as usize) < room {
-        return reject(m);
+        return reject(rt, m);
     }
     let mut reply = ops_protocol::reply_buffer();
-    call_and_report(m, input, bytes, one, two, &mut reply[0..room])
+    call_and_report(rt, m, input, bytes, one, two, &mut reply[0..room])
 }
 
 // Hands an event to the module, and writes the answer.
-pub fn run_event(m: Module, e: Event, one: &mut [u32], two: &mut [u32]) -> Module {
+pub fn run_event(rt: &impl Print, m: Module, e: Event, one: &mut [u32], two: &mut [u32]) -> Module {
     let taken = lockin::take_event(m, e, one, two);
     let outcome = taken.outcome;
-    report_number(b"A ", lockin::number_of(outcome));
+    report_number(rt, b"A ", lockin::number_of(outcome));
     taken.after
 }
 
 // Writes a word into a slot of trace 1 or 2, where that slot is there, and the answer.
-pub fn write_slot(trace: u32, slot: usize, word: u32, one: &mut [u32], two: &mut [u32]) {
-    report_done();
+pub fn write_slot(
+    rt: &impl Print,
+    trace: u32,
+    slot: usize,
+    word: u32,
+    one: &mut [u32],
+    two: &mut [u32],
+) {
+    report_done(rt);
     if trace == 1 {
         if slot < one.len() {
             one[slot] = word;

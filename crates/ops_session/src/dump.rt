@@ -47,29 +47,29 @@ fn value_at(m: Module, field: usize) -> u32 {
 }
 
 // Writes the bytes that wait, of more than 256 the first ones.
-fn write_queue(out: &mut [u8], at: usize, q: Queue) -> usize {
+fn write_queue(rt: &impl Print, out: &mut [u8], at: usize, q: Queue) -> usize {
     let bytes = q.bytes;
-    terminal::write_hex_bytes(out, at, terminal::first_bytes(&bytes, q.len))
+    terminal::write_hex_bytes(rt, out, at, terminal::first_bytes(&bytes, q.len))
 }
 
 // Writes a field's value.
-fn write_value(out: &mut [u8], at: usize, m: Module, field: usize) -> usize {
+fn write_value(rt: &impl Print, out: &mut [u8], at: usize, m: Module, field: usize) -> usize {
     let value = value_at(m, field);
     match fields::kind_of(field) {
-        FieldKind::Number(_) | FieldKind::Flag => terminal::write_number(out, at, value as u64),
+        FieldKind::Number(_) | FieldKind::Flag => terminal::write_number(rt, out, at, value as u64),
         FieldKind::Setting(entry) => {
             let row = settings::row_of(entry);
-            terminal::write_signed(out, at, value, row.bias)
+            terminal::write_signed(rt, out, at, value, row.bias)
         }
-        FieldKind::Word => terminal::write_hex(out, at, value as u64, WORD_DIGITS),
-        FieldKind::Phase => fields::write_phase(out, at, value),
-        FieldKind::Range => fields::write_range(out, at, value),
-        FieldKind::Queue => write_queue(out, at, m.queue),
+        FieldKind::Word => terminal::write_hex(rt, out, at, value as u64, WORD_DIGITS),
+        FieldKind::Phase => fields::write_phase(rt, out, at, value),
+        FieldKind::Range => fields::write_range(rt, out, at, value),
+        FieldKind::Queue => write_queue(rt, out, at, m.queue),
     }
 }
 
 // Writes every field that comes before the traces, behind its name.
-fn write_fields(out: &mut [u8], at: usize, m: Module) -> usize {
+fn write_fields(rt: &impl Print, out: &mut [u8], at: usize, m: Module) -> usize {
     let names = fields::NAMES;
     let mut end = at;
     let mut start = 0;
@@ -77,8 +77,8 @@ fn write_fields(out: &mut [u8], at: usize, m: Module) -> usize {
     while field < fields::RANGE {
         let rest = &names[start..];
         let n = split::span_of(rest, b' ');
-        let name = fields::write_name(out, end, &rest[0..n], field);
-        end = write_value(out, name, m, field);
+        let name = fields::write_name(rt, out, end, &rest[0..n], field);
+        end = write_value(rt, out, name, m, field);
         if n == rest.len() {
             return end;
         }
@@ -89,38 +89,38 @@ fn write_fields(out: &mut [u8], at: usize, m: Module) -> usize {
 }
 
 // Writes a text and a word in hex behind it.
-fn write_word_after(out: &mut [u8], at: usize, text: &[u8], word: u32) -> usize {
-    let end = write_bytes(out, at, text);
-    terminal::write_hex(out, end, word as u64, WORD_DIGITS)
+fn write_word_after(rt: &impl Print, out: &mut [u8], at: usize, text: &[u8], word: u32) -> usize {
+    let end = write_bytes(rt, out, at, text);
+    terminal::write_hex(rt, out, end, word as u64, WORD_DIGITS)
 }
 
 // Writes the words of a trace behind the first, each after a comma.
-fn write_words(out: &mut [u8], at: usize, trace: &[u32]) -> usize {
+fn write_words(rt: &impl Print, out: &mut [u8], at: usize, trace: &[u32]) -> usize {
     let mut end = at;
     let mut i = 1;
     while i < trace.len() {
-        end = write_word_after(out, end, b",", trace[i]);
+        end = write_word_after(rt, out, end, b",", trace[i]);
         i += 1;
     }
     end
 }
 
 // Writes a trace's words behind a text.
-fn write_trace(out: &mut [u8], at: usize, text: &[u8], trace: &[u32]) -> usize {
+fn write_trace(rt: &impl Print, out: &mut [u8], at: usize, text: &[u8], trace: &[u32]) -> usize {
     if trace.len() == 0 {
-        return write_bytes(out, at, text);
+        return write_bytes(rt, out, at, text);
     }
-    let end = write_word_after(out, at, text, trace[0]);
-    write_words(out, end, trace)
+    let end = write_word_after(rt, out, at, text, trace[0]);
+    write_words(rt, out, end, trace)
 }
 
 // Answers `dump`.
-pub fn report_state(m: Module, one: &[u32], two: &[u32]) {
+pub fn report_state(rt: &impl Print, m: Module, one: &[u32], two: &[u32]) {
     let mut out = io::buffer();
-    let fields = write_fields(&mut out, 0, m);
-    let first = write_trace(&mut out, fields, b" t1=", one);
-    let second = write_trace(&mut out, first, b" t2=", two);
-    let name = fields::write_name(&mut out, second, b"range", fields::RANGE);
-    let end = write_value(&mut out, name, m, fields::RANGE);
-    terminal::end_line(&mut out, end);
+    let fields = write_fields(rt, &mut out, 0, m);
+    let first = write_trace(rt, &mut out, fields, b" t1=", one);
+    let second = write_trace(rt, &mut out, first, b" t2=", two);
+    let name = fields::write_name(rt, &mut out, second, b"range", fields::RANGE);
+    let end = write_value(rt, &mut out, name, m, fields::RANGE);
+    terminal::end_line(rt, &mut out, end);
 }

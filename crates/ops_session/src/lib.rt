@@ -35,13 +35,14 @@ pub fn first_session() -> Session {
 }
 
 // Answers what is no operation, and leaves the module as it is.
-fn reject(m: Module) -> Module {
-    answer::report_invalid();
+fn reject(rt: &impl Print, m: Module) -> Module {
+    answer::report_invalid(rt);
     m
 }
 
 // Runs an operation that leaves the module as it is.
 fn run_query(
+    rt: &impl Print,
     m: Module,
     operation: Operation,
     bytes: &[u8],
@@ -49,20 +50,21 @@ fn run_query(
     two: &mut [u32],
 ) -> Module {
     match operation {
-        Operation::Poke(trace, slot, word) => call::write_slot(trace, slot, word, one, two),
-        Operation::Dump => dump::report_state(m, one, two),
-        Operation::Poll => answer::report_poll(m),
+        Operation::Poke(trace, slot, word) => call::write_slot(rt, trace, slot, word, one, two),
+        Operation::Dump => dump::report_state(rt, m, one, two),
+        Operation::Poll => answer::report_poll(rt, m),
         Operation::Check(capacity, len) => {
             let model = Model::of_capacity(capacity);
-            check_input::report_verdict(script::check(model, terminal::first_bytes(bytes, len)))
+            check_input::report_verdict(rt, script::check(model, terminal::first_bytes(bytes, len)))
         }
-        _ => answer::report_invalid(),
+        _ => answer::report_invalid(rt),
     }
     m
 }
 
 // Runs an operation on traces that are as long as the session says.
 fn run_on_slots(
+    rt: &impl Print,
     m: Module,
     operation: Operation,
     bytes: &[u8],
@@ -71,6 +73,7 @@ fn run_on_slots(
 ) -> Module {
     match operation {
         Operation::Line(len, room) => call::run_call(
+            rt,
             m,
             CallInput::Line,
             terminal::first_bytes(bytes, len),
@@ -79,6 +82,7 @@ fn run_on_slots(
             two,
         ),
         Operation::Byte(b, mark, room) => call::run_call(
+            rt,
             m,
             CallInput::Byte(b, mark),
             bytes,
@@ -87,6 +91,7 @@ fn run_on_slots(
             two,
         ),
         Operation::Run(len, mark, room) => call::run_call(
+            rt,
             m,
             CallInput::Run(mark),
             terminal::first_bytes(bytes, len),
@@ -94,17 +99,18 @@ fn run_on_slots(
             one,
             two,
         ),
-        Operation::Event(e) => call::run_event(m, e, one, two),
+        Operation::Event(e) => call::run_event(rt, m, e, one, two),
         Operation::Alter(field, value) => {
-            answer::report_done();
+            answer::report_done(rt);
             alter::with_field(m, field, value, bytes)
         }
-        _ => run_query(m, operation, bytes, one, two),
+        _ => run_query(rt, m, operation, bytes, one, two),
     }
 }
 
 // Runs an operation on the first `slots` words of each trace.
 fn run_operation(
+    rt: &impl Print,
     m: Module,
     slots: usize,
     operation: Operation,
@@ -113,17 +119,25 @@ fn run_operation(
     two: &mut [u32],
 ) -> Module {
     if one.len() < slots {
-        return reject(m);
+        return reject(rt, m);
     }
     if two.len() < slots {
-        return reject(m);
+        return reject(rt, m);
     }
-    run_on_slots(m, operation, bytes, &mut one[0..slots], &mut two[0..slots])
+    run_on_slots(
+        rt,
+        m,
+        operation,
+        bytes,
+        &mut one[0..slots],
+        &mut two[0..slots],
+    )
 }
 
 // Runs the operation of a line of `len` bytes; an empty line does nothing, and one that is too long is no operation.
 // The bytes that the operation brings are stored at the start of a buffer.
 pub fn run_line(
+    rt: &impl Print,
     s: Session,
     line: &[u8],
     len: usize,
@@ -135,15 +149,15 @@ pub fn run_line(
         return s;
     }
     if line.len() < len {
-        answer::report_invalid();
+        answer::report_invalid(rt);
         return s;
     }
     let operation = ops_protocol::decode_operation(&line[0..len], bytes);
     if let Operation::Start(serial, port, first, second) = operation {
-        return session_of(start::start_module(serial, port, first, second, one, two));
+        return session_of(start::start_module(rt, serial, port, first, second, one, two));
     }
     Session {
-        module: run_operation(s.module, s.slots, operation, bytes, one, two),
+        module: run_operation(rt, s.module, s.slots, operation, bytes, one, two),
         slots: s.slots,
     }
 }

@@ -28,6 +28,7 @@ fn first_words(trace: &[u32], n: usize) -> &[u32] {
 
 // Clears the traces, starts a module over the first words of each, and writes the answer.
 pub fn start_module(
+    rt: &impl Print,
     serial: u32,
     port: u32,
     first: usize,
@@ -44,6 +45,6 @@ pub fn start_module(
         first_words(two, second),
     );
     let outcome = started.outcome;
-    report_number(b"R ", lockin::number_of(outcome));
+    report_number(rt, b"R ", lockin::number_of(outcome));
     started.after
 }

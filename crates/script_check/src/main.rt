@@ -2,6 +2,7 @@
 #![tactic(auto)]
 
 // Reads the input, and writes the verdict on it.
-fn main() {
-    check_input::write_line(check_input::read_output());
+fn main(rt: HostRuntime) {
+    let line = check_input::read_output(&mut rt.stdin());
+    check_input::write_line(&rt, line);
 }

@@ -24,7 +24,7 @@ pub struct Course {
 }
 
 // The event of the highest frequency that is taken, where one is measured.
-fn measure(course: Course, m: Module, one: &mut [u32], two: &mut [u32]) -> Module {
+fn measure(rt: &impl Print, course: Course, m: Module, one: &mut [u32], two: &mut [u32]) -> Module {
     let state = m.state;
     let settings = state.settings;
     if settings::is_internal(settings) {
@@ -32,31 +32,38 @@ fn measure(course: Course, m: Module, one: &mut [u32], two: &mut [u32]) -> Modul
     }
     let frequency = extreme_courses::highest(settings::value_of(settings, settings::HARM));
     if course.prints {
-        operation::print_measured(frequency);
+        operation::print_measured(rt, frequency);
     }
     let taken = lockin::take_event(m, Event::Measured(frequency), one, two);
     taken.after
 }
 
 // The trigger event.
-fn trigger(course: Course, m: Module, one: &mut [u32], two: &mut [u32]) -> Module {
+fn trigger(rt: &impl Print, course: Course, m: Module, one: &mut [u32], two: &mut [u32]) -> Module {
     if course.prints {
-        operation::print_trigger();
+        operation::print_trigger(rt);
     }
     let taken = lockin::take_event(m, Event::Trigger, one, two);
     taken.after
 }
 
 // The events before a line.
-fn events_before_line(course: Course, m: Module, one: &mut [u32], two: &mut [u32]) -> Module {
+fn events_before_line(
+    rt: &impl Print,
+    course: Course,
+    m: Module,
+    one: &mut [u32],
+    two: &mut [u32],
+) -> Module {
     if course.has_events {
-        return trigger(course, measure(course, m, one, two), one, two);
+        return trigger(rt, course, measure(rt, course, m, one, two), one, two);
     }
     m
 }
 
 // The events before a line, and the line.
 fn run_line(
+    rt: &impl Print,
     course: Course,
     m: Module,
     text: &[u8],
@@ -65,7 +72,7 @@ fn run_line(
     reply: &mut [u8],
 ) -> LineResult {
     let called = lockin::take_line(
-        events_before_line(course, m, one, two),
+        events_before_line(rt, course, m, one, two),
         text,
         one,
         two,
@@ -73,7 +80,7 @@ fn run_line(
     );
     if course.prints {
         let report = called.report;
-        operation::print_line(text, report.length);
+        operation::print_line(rt, text, report.length);
     }
     called
 }
@@ -91,6 +98,7 @@ fn refuses_at(report: Report, place: u32) -> bool {
 // Runs the course up to the named line, and gives whether that line answers refusal 3 at the named place. What the
 // traces hold at the start is never read: a trace read sends only points that were stored since.
 pub fn run(
+    rt: &impl Print,
     course: Course,
     script: &[u8],
     one: &mut [u32],
@@ -103,7 +111,7 @@ pub fn run(
     let mut start = 0;
     while start < script.len() {
         let end = split::end_of(script, b'\n', start);
-        let called = run_line(course, latest, &script[start..end], one, two, reply);
+        let called = run_line(rt, course, latest, &script[start..end], one, two, reply);
         if line == course.line {
             return refuses_at(called.report, course.place);
         }

@@ -28,7 +28,14 @@ fn reply_buffer() -> [u8; ROOM]
 // Writes the course without events where that one is refused, and else the one with events. A course from a fresh
 // module is refused there (`FirstRefused`, crates/demand3/specs/Demand3.antt), and its events are those of one of these
 // two (crates/demand3/proofs/Completeness.antt).
-fn print_course(script: &[u8], line: usize, place: u32, one: &mut [u32], two: &mut [u32]) {
+fn print_course(
+    rt: &impl Print,
+    script: &[u8],
+    line: usize,
+    place: u32,
+    one: &mut [u32],
+    two: &mut [u32],
+) {
     let mut reply = reply_buffer();
     let tried = Course {
         has_events: false,
@@ -36,23 +43,24 @@ fn print_course(script: &[u8], line: usize, place: u32, one: &mut [u32], two: &m
         line,
         place,
     };
-    let refused = course::run(tried, script, one, two, &mut reply);
-    operation::print_start(one.len());
+    let refused = course::run(rt, tried, script, one, two, &mut reply);
+    operation::print_start(rt, one.len());
     let printed = Course {
         has_events: refused == false,
         prints: true,
         line,
         place,
     };
-    course::run(printed, script, one, two, &mut reply);
+    course::run(rt, printed, script, one, two, &mut reply);
 }
 
 // Writes a course that shows the refusal 3 of a script at a line and a place.
-fn explain(capacity: usize, script: &[u8], line: usize, place: u32) {
+fn explain(rt: &impl Print, capacity: usize, script: &[u8], line: usize, place: u32) {
     let mut one = [0u32; SLOTS];
     let mut two = [0u32; SLOTS];
     if capacity <= SLOTS {
         print_course(
+            rt,
             script,
             line,
             place,
@@ -63,15 +71,15 @@ fn explain(capacity: usize, script: &[u8], line: usize, place: u32) {
 }
 
 // Reads the input, and writes the verdict on it and the course.
-fn main() {
+fn main(rt: HostRuntime) {
     let mut script = check_input::script_buffer();
-    let input = check_input::read_input(&mut script);
+    let input = check_input::read_input(&mut rt.stdin(), &mut script);
     let bytes = terminal::first_bytes(&script, input.len);
     let verdict = check_input::limited_check(input.capacity, bytes);
-    check_input::report_verdict(verdict);
+    check_input::report_verdict(&rt, verdict);
     if let Verdict::No(line, place, refusal) = verdict {
         if let Refusal::NotAllowed = refusal {
-            explain(input.capacity as usize, bytes, line, place);
+            explain(&rt, input.capacity as usize, bytes, line, place);
         }
     }
 }

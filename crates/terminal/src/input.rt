@@ -29,10 +29,10 @@ pub fn before_first_line() -> Line {
 
 // Reads once: gives how many bytes were read to the start of the chunk, 0 where the input has ended. A read that fails
 // ends the input.
-pub fn next_chunk(input: &mut impl Read, chunk: &mut [u8]) -> usize
+pub fn next_chunk(reader: &mut impl Read, chunk: &mut [u8]) -> usize
     ensures { IsPrefixLen result chunk.new }
 {
-    match input.read(chunk) {
+    match reader.read(chunk) {
         Ok(n) => n,
         Err(_) => 0,
     }
@@ -69,7 +69,7 @@ fn append_rest(latest: Line, chunk: &[u8], line: &mut [u8]) -> Line {
 
 // Stores the line behind the latest one at the start of a buffer: from the bytes of the chunk that are left, then from
 // those that are read. A proved loop has to end, so this one counts its turns down, from a number that no run uses up.
-pub fn next_line(input: &mut impl Read, latest: Line, chunk: &mut [u8], line: &mut [u8]) -> Line {
+pub fn next_line(reader: &mut impl Read, latest: Line, chunk: &mut [u8], line: &mut [u8]) -> Line {
     let mut next = Line {
         len: 0,
         ending: false,
@@ -83,7 +83,7 @@ pub fn next_line(input: &mut impl Read, latest: Line, chunk: &mut [u8], line: &m
         if ending {
             return next;
         }
-        let n = next_chunk(input, chunk);
+        let n = next_chunk(reader, chunk);
         if n == 0 {
             return next;
         }
