@@ -1,6 +1,6 @@
 /* The script check of the lock-in module, for a console in C.
  *
- * Link with libc_interface.a, which `rt staticlib c_interface` writes to target/staticlib/.
+ * Link with libc_interface.a, which `tests/build c_interface` writes to target/staticlib/.
  *
  * The check's own proofs are in Rattle (crates/c_interface, crates/script,
  * crates/extreme_courses, crates/demand3). They cover neither this header nor a caller in C:

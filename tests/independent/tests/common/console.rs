@@ -16,10 +16,10 @@ pub const WITH_USUAL_STACK: Limits = Limits { seconds: SECONDS, stack_kib: None 
 /// How programs in C are compiled.
 const FLAGS: [&str; 6] = ["-std=c99", "-Wall", "-Wextra", "-Werror", "-pedantic", "-O2"];
 
-/// The static library: the one that ARCHIVE names, or else the one that `rt staticlib c_interface` writes.
+/// The static library: the one that ARCHIVE names, or else the one that `tests/build` puts there.
 fn archive() -> PathBuf {
     let archive = variable("ARCHIVE").unwrap_or_else(|| root().join("target/staticlib/libc_interface.a"));
-    assert!(archive.is_file(), "{} is no static library; rt staticlib c_interface writes it", archive.display());
+    assert!(archive.is_file(), "{} is no static library; tests/build puts it there", archive.display());
     archive
 }
 

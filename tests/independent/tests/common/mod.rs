@@ -55,10 +55,10 @@ pub fn variable(name: &str) -> Option<PathBuf> {
     env::var_os(name).filter(|value| !value.is_empty()).map(PathBuf::from)
 }
 
-/// The program that an environment variable names, or else the one that `rt ci` has built.
+/// The program that an environment variable names, or else the one that `tests/build` puts there.
 fn proved(name: &str, built: &str) -> PathBuf {
     let program = variable(name).unwrap_or_else(|| root().join("target/bin").join(built));
-    assert!(is_program(&program), "{} is no program; rt ci builds it", program.display());
+    assert!(is_program(&program), "{} is no program; tests/build puts it there", program.display());
     program
 }
 
