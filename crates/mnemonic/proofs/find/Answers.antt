@@ -22,9 +22,9 @@ Others N (n ∷ ns) w = Others (N × (w ≡ word n.name → ⊥)) ns w
 -- so that no name is found
 none : {N : Type 0} (ns : List Named) (w : ℕ) → Others N ns w → N × (found_in ns w ≡ Unknown)
 unfolding found_in
-none [] w others = (others, refl)
-none (n ∷ ns) w others =
-    let rest = none ns w others in
+none {N = N} [] w others = (others, refl)
+none {N = N} (n ∷ ns) w others =
+    let rest = none {N = N × (w ≡ word n.name → ⊥)} ns w others in
     (rest.0.0, rw (ne_eqb (word n.name) w (λ e. rest.0.1 (sym e)), rest.1))
 
 pub returns-in-709053523 : goal.returns-in-709053523
