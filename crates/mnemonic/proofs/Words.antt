@@ -43,6 +43,16 @@ abbrev all_four : List Named → Bool
 all_four ns = all (λ n. is_four n.name) ns
 
 same_four : (s t : List ℕ) → T (is_four s) → T (is_four t) → eqb (word s) (word t) ≡ same_bytes s t
+same_four [] t p q = elim p [ ]
+same_four (a ∷ []) t p q = elim p [ ]
+same_four (a ∷ (b ∷ [])) t p q = elim p [ ]
+same_four (a ∷ (b ∷ (c ∷ []))) t p q = elim p [ ]
+same_four (a ∷ (b ∷ (c ∷ (d ∷ [])))) [] p q = elim q [ ]
+same_four (a ∷ (b ∷ (c ∷ (d ∷ [])))) (e ∷ []) p q = elim q [ ]
+same_four (a ∷ (b ∷ (c ∷ (d ∷ [])))) (e ∷ (f ∷ [])) p q = elim q [ ]
+same_four (a ∷ (b ∷ (c ∷ (d ∷ [])))) (e ∷ (f ∷ (g ∷ []))) p q = elim q [ ]
+same_four (a ∷ (b ∷ (c ∷ (d ∷ [])))) (e ∷ (f ∷ (g ∷ (h ∷ (_ ∷ _))))) p q = elim q [ ]
+same_four (a ∷ (b ∷ (c ∷ (d ∷ (_ ∷ _))))) t p q = elim p [ ]
 same_four (a ∷ b ∷ c ∷ d ∷ []) (e ∷ f ∷ g ∷ h ∷ []) p q =
     let p1 = both_true (ltb a 256) _ p in
     let p2 = both_true (ltb b 256) _ p1.1 in

@@ -1,0 +1,38 @@
+-- `command::word_of` meets its contract. Assumes nothing.
+use native.Mathlib.Omega.{arith}
+use Rattle.command.proofs.Words.{four_word}
+use borrow.Author.Rules.{rules}
+use Rattle.command.proofs.word_of.Goals as goal
+
+pub overflow_cast-high : goal.overflow_cast-high
+overflow_cast-high c = omega (arith, c.shared_slice_known-1.given 0)
+
+pub overflow_mul-high : goal.overflow_mul-high
+overflow_mul-high c = omega (arith, c.shared_slice_known-1.given 0)
+
+pub overflow_cast-high-2 : goal.overflow_cast-high-2
+overflow_cast-high-2 c = omega (arith, c.shared_slice_known-2-1.given 1)
+
+pub overflow_add-high : goal.overflow_add-high
+overflow_add-high c = omega (arith, c.shared_slice_known-1.given 0, c.shared_slice_known-2-1.given 1)
+
+pub overflow_cast-low : goal.overflow_cast-low
+overflow_cast-low c = omega (arith, c.shared_slice_known-3-1.given 2)
+
+pub overflow_mul-low : goal.overflow_mul-low
+overflow_mul-low c = omega (arith, c.shared_slice_known-3-1.given 2)
+
+pub overflow_cast-low-2 : goal.overflow_cast-low-2
+overflow_cast-low-2 c = omega (arith, c.shared_slice_known-4-1.given 3)
+
+pub overflow_add-low : goal.overflow_add-low
+overflow_add-low c = omega (arith, c.shared_slice_known-3-1.given 2, c.shared_slice_known-4-1.given 3)
+
+pub overflow_mul-result : goal.overflow_mul-result
+overflow_mul-result c = omega (arith, c.shared_slice_known-1.given 0, c.shared_slice_known-2-1.given 1)
+
+pub overflow_add-result : goal.overflow_add-result
+overflow_add-result c = omega (arith, c.shared_slice_known-1.given 0, c.shared_slice_known-2-1.given 1, c.shared_slice_known-3-1.given 2, c.shared_slice_known-4-1.given 3)
+
+pub returns : goal.returns
+returns c = four_word c.args.text.now c.requires

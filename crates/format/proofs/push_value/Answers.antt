@@ -1,0 +1,12 @@
+-- `format::push_value` meets its contract: the sign, then how far the value is from zero. Assumes nothing.
+use mathlib.Core.Path.{◌∙◌}
+use borrow.Author.Rules.{rules}
+use Rattle.format.specs.Text.{signed_text}
+use Rattle.format.proofs.Appended.{added_join}
+use Rattle.format.proofs.push_value.Goals as goal
+
+pub returns : goal.returns
+unfolding signed_text
+returns c =
+    c.push_fixed.ensures
+    ∙ rw (c.distance_of.ensures, c.push_sign-signed.ensures, added_join)

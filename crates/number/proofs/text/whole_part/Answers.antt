@@ -1,0 +1,40 @@
+-- `number::whole_part` meets its contract: the digits passed make the value. Assumes nothing.
+use Prim.Native.Nat.{◌≤◌, ◌-◌, min}
+use mathlib.Core.Path.{◌≡◌, refl, ap, ◌∙◌}
+use mathlib.Core.List.{◌++◌}
+use native.Mathlib.Omega.{arith}
+use native.Mathlib.Nat.{min-le_left}
+use Rattle.number.specs.Parts.{cap}
+use Rattle.number.specs.TextParts.{digits_value}
+use Rattle.number.proofs.Places.{digit_range}
+use Rattle.number.proofs.Scan.{grow}
+use Rattle.number.proofs.text.whole_part.Goals as goal
+
+pub loop-index-init : goal.loop-index-init
+unfolding digits_value
+loop-index-init c = (omega arith, refl)
+
+pub digit_at-b-requires : goal.digit_at-b-requires
+digit_at-b-requires c = tt
+
+pub overflow_sub-b : goal.overflow_sub-b
+overflow_sub-b c =
+    let a = c.args in
+    omega (arith, c.digit_at-b.ensures, digit_range (a.front.now ++ a.back.now) c.requires c.loop-index.index)
+
+pub grown-value-requires : goal.grown-value-requires
+grown-value-requires c =
+    let a = c.args in (
+      rw c.loop-index.invariant.1 (min-le_left _ _),
+      omega (arith, c.digit_at-b.ensures, digit_range (a.front.now ++ a.back.now) c.requires c.loop-index.index),
+    )
+
+pub loop-index-preserved : goal.loop-index-preserved
+loop-index-preserved c =
+    let a = c.args in
+    (omega arith, c.grown-value.ensures ∙ grow (a.front.now ++ a.back.now) c.loop-index.index _ _ c.loop-index.invariant.1 (ap (λ b. b - 48) c.digit_at-b.ensures))
+
+pub returns : goal.returns
+returns c =
+    let e : c.loop-index.index ≡ c.args.kept = omega arith in
+    c.loop-index.invariant.1 ∙ rw e

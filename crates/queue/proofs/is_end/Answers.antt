@@ -1,0 +1,6 @@
+-- `queue::is_end` meets its contract: by its two tests. Assumes nothing.
+use borrow.Author.Rules.{rules}
+use Rattle.queue.proofs.is_end.Goals as goal
+
+pub returns : goal.returns
+returns c = rw (c.is_marked.ensures, c.ends_line.ensures)

@@ -1,0 +1,8 @@
+-- `settings::table::leasts` meets its contract: the constant computes to the table's column. Assumes nothing.
+use mathlib.Core.Path.{refl}
+use Rattle.settings.specs.Table.{table}
+use Rattle.settings.proofs.table.leasts.Goals as goal
+
+pub returns : goal.returns
+unfolding table
+returns c = refl

@@ -1,0 +1,6 @@
+-- `settings::time_constant_stands` meets its contract. Assumes nothing.
+use borrow.Author.Rules.{rules}
+use Rattle.settings.proofs.time_constant_stands.Goals as goal
+
+pub returns : goal.returns
+returns c = rw c.is_upper.ensures

@@ -1,0 +1,9 @@
+-- `storage::holds` meets its contract. Assumes nothing.
+use borrow.Author.Rules.{rules}
+use mathlib.Core.Path.{refl}
+use Rattle.storage.specs.Storage.{holds_of}
+use Rattle.storage.proofs.holds.Goals as goal
+
+pub returns : goal.returns
+unfolding holds_of
+returns c = refl

@@ -1,0 +1,8 @@
+-- `storage::put` meets its contract. Assumes nothing.
+use borrow.Author.Rules.{rules}
+use mathlib.Core.Path.{sym}
+use lib.Seq.{set_out}
+use Rattle.storage.proofs.put.Goals as goal
+
+pub returns-else-at-trace : goal.returns-else-at-trace
+returns-else-at-trace c = sym (set_out _ _ _ c.if-at-trace.false)
