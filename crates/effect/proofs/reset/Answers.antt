@@ -1,0 +1,6 @@
+-- `effect::reset` meets its contract. Assumes nothing.
+use borrow.Author.Rules.{rules}
+use Rattle.effect.proofs.reset.Goals as goal
+
+pub returns : goal.returns
+returns c = rw (c.with_storage_of.ensures, c.start-t-2.ensures, c.start-t.ensures)

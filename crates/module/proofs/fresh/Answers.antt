@@ -1,0 +1,8 @@
+-- `module::fresh` meets its contract. Assumes nothing.
+use borrow.Author.Rules.{rules}
+use Rattle.module.specs.Start.{fresh_module}
+use Rattle.module.proofs.fresh.Goals as goal
+
+pub returns : goal.returns
+unfolding fresh_module
+returns c = rw (c.empty.ensures, c.start.ensures)

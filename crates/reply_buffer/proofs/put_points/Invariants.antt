@@ -1,0 +1,21 @@
+-- `reply_buffer::put_points` meets its contract: what is written so far, then the points that are left, is the whole;
+-- the measure is how many are left. Assumes nothing.
+use native.Mathlib.Nat.{add-zero, sub-zero}
+use Prim.Native.Nat.{◌+◌, ◌-◌, ◌*◌, ◌≤◌}
+use mathlib.Core.Path.{◌≡◌, refl, sym, ap, ◌∙◌}
+use mathlib.Core.List.{◌++◌}
+use native.Mathlib.Omega.{arith}
+use borrow.Author.Rules.{rules}
+use lib.ListN.{length, take, drop, take-append-drop}
+use Rattle.reply_buffer.specs.Buffer.{overwrite, word_at, formed, point_bytes}
+use Rattle.reply_buffer.proofs.Points.{points_more}
+use Rattle.reply_buffer.proofs.put_points.Given as goal
+
+abbrev pub invariant-loop-i : goal.invariant-loop-i
+invariant-loop-i l = (l.i ≤ l.count)
+    × (take (4 * l.i) l.out ++ overwrite (point_bytes l.form l.trace (l.first + l.i) (l.count - l.i)) (drop (4 * l.i) l.out)
+    ≡ overwrite (point_bytes l.form l.trace l.first l.count) l.initial.out)
+    × (length l.out ≡ length l.initial.out)
+
+abbrev pub decreases-loop-i : goal.decreases-loop-i
+decreases-loop-i l = l.count - l.i

@@ -1,0 +1,6 @@
+-- `state::Acquisition::start` meets its contract. Assumes nothing.
+use borrow.Author.Rules.{rules}
+use Rattle.state.proofs.Acquisition.start.Goals as goal
+
+pub returns : goal.returns
+returns c = rw c.emptied.ensures

@@ -1,0 +1,8 @@
+-- `state::trigger_of` meets its contract. Assumes nothing.
+use borrow.Author.Rules.{rules}
+use Rattle.state.specs.Storing.{trigger_of}
+use Rattle.state.proofs.trigger_of.Goals as goal
+
+pub returns : goal.returns
+unfolding trigger_of
+returns c = rw (c.triggered.ensures, c.sampling_of.ensures)
