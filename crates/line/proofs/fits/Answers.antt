@@ -10,13 +10,12 @@ use mir.Val.{Fits}
 use Rattle.settings.specs.Table.{value_of}
 use Rattle.line.proofs.Sized.{Sized}
 use Rattle.line.proofs.MustFit.{must_pass}
-use Rattle.line.proofs.fits.Statement.{statement}
-use Rattle.line.proofs.fits.Tie as tie
+use Rattle.line.proofs.fits.Goals as goal
 
-returns : tie.Need-returns
-returns c one two =
-    let a = c.before.before.before.args in
-    let known = c.before.before.before.well-formed.0 in
+pub returns-then-sure : goal.returns-then-sure
+returns-then-sure c one two =
+    let a = c.args in
+    let known = c.well_formed.0 in
     let fit : (entry : ℕ) → Fits w32 (value_of a.s.settings entry) = λ entry. search rules in
     let sized : Sized a.s =
     record {
@@ -33,8 +32,5 @@ returns c one two =
             errors = omega (arith, known);
           };
     } in
-    let sure = sym c.before.must-fit.ensures ∙ c.if1.true in
+    let sure = sym c.must_fit-sure.ensures ∙ c.if-sure.true in
     sym (ap not (must_pass a.line.now a.room a.s one two sized sure))
-
-pub fits_spec : {M : Type 1} → statement M
-fits_spec = tie.close (tie.spec (λ c κs. search rules) returns (λ c κs. search rules) (λ c. search rules))
