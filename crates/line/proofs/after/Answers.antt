@@ -1,0 +1,6 @@
+-- `line::after` meets its contract. Assumes nothing.
+use borrow.Author.Rules.{rules}
+use Rattle.line.proofs.after.Goals as goal
+
+pub returns : goal.returns
+returns c = rw (c.drops.ensures, c.first_of.ensures)

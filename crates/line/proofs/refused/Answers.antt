@@ -1,0 +1,6 @@
+-- `line::refused` meets its contract. Assumes nothing.
+use borrow.Author.Rules.{rules}
+use Rattle.line.proofs.refused.Goals as goal
+
+pub returns : goal.returns
+returns c = rw c.with_error_bit.ensures
