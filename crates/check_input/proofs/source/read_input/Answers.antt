@@ -12,12 +12,11 @@ pub returns-then-n-eq0 : goal.returns-then-n-eq0
 returns-then-n-eq0 g c = c.loop-turns.invariant.2
 
 pub loop-turns-preserved : goal.loop-turns-preserved
-loop-turns-preserved g c =
-    (
-      search rules,
-      search rules,
-      read_on c.loop-turns.invariant.2 (record { bytes = _; stored = c.store_bytes-input.ensures }),
-    )
+loop-turns-preserved g c = (
+  search rules,
+  search rules,
+  read_on c.loop-turns.invariant.2 (record { bytes = _; stored = c.store_bytes-input.ensures }),
+)
 
 pub returns : goal.returns
 returns g c = c.loop-turns.invariant.2
