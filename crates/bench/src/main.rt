@@ -47,8 +47,8 @@ fn run_chunk(
     latest
 }
 
-// Hands all of the input to the module. A proved loop has to end, so this one counts its turns down, from a number that
-// no run uses up.
+// Hands all of the input to the module. A proved loop has to end, so this one counts its turns, up to a number that no
+// run reaches.
 fn run_input(
     rt: &impl Print,
     reader: &mut impl Read,
@@ -59,14 +59,12 @@ fn run_input(
 ) {
     let mut chunk = io::large_buffer();
     let mut latest = m;
-    let mut turns = u64::MAX;
-    while turns > 0 {
+    for _ in 0..u64::MAX {
         let n = terminal::next_chunk(reader, &mut chunk);
         if n == 0 {
             return;
         }
         latest = run_chunk(rt, latest, &chunk[..n], one, two, reply);
-        turns -= 1;
     }
 }
 

@@ -18,21 +18,19 @@ pub fn script_buffer() -> [u8; ROOM]
     [0; ROOM]
 }
 
-// Reads all of the input and stores the script's bytes at the start of a buffer, as far as there is room. A proved
-// loop has to end, so this one counts its turns down, from a number that no run uses up.
+// Reads all of the input and stores the script's bytes at the start of a buffer, as far as there is room. A proved loop
+// has to end, so this one counts its turns, up to a number that no run reaches.
 pub fn read_input(reader: &mut impl Read, script: &mut [u8]) -> Input
     ensures { Reads (memory start_input script.old) (memory result script.new) }
 {
     let mut chunk = io::large_buffer();
     let mut input = Input::start();
-    let mut turns = u64::MAX;
-    while turns > 0 {
+    for _ in 0..u64::MAX {
         let n = terminal::next_chunk(reader, &mut chunk);
         if n == 0 {
             return input;
         }
         input = store_bytes(input, &chunk[..n], script);
-        turns -= 1;
     }
     input
 }

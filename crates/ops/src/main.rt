@@ -2,8 +2,8 @@
 // by docs/ops-protocol.md.
 #![tactic(auto)]
 
-// Runs the operations of all lines. A proved loop has to end, so this one counts its turns down, from a number that no
-// run uses up.
+// Runs the operations of all lines. A proved loop has to end, so this one counts its turns, up to a number that no run
+// reaches.
 fn main(rt: HostRuntime) {
     let mut stdin = rt.stdin();
     let mut chunk = io::large_buffer();
@@ -13,16 +13,13 @@ fn main(rt: HostRuntime) {
     let mut two = ops_protocol::trace_buffer();
     let mut session = ops_session::first_session();
     let mut next = terminal::before_first_line();
-    let mut turns = u64::MAX;
-    while turns > 0 {
+    for _ in 0..u64::MAX {
         next = terminal::next_line(&mut stdin, next, &mut chunk, &mut line);
         session = ops_session::run_line(
             &rt, session, &line, next.len, &mut bytes, &mut one, &mut two,
         );
-        let ending = next.ending;
-        if ending {} else {
+        if !next.ending {
             return;
         }
-        turns -= 1;
     }
 }

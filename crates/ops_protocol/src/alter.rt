@@ -14,17 +14,14 @@ fn decode_setting(part: &[u8], entry: usize) -> Number {
             else {
                 return Number::Invalid;
             };
-            return Number::Value(std::num::wrapping_sub_u32(bias, below));
+            return Number::Value(bias.wrapping_sub(below));
         }
     }
-    let Number::Value(units) = terminal::decode_number(
-        part,
-        terminal::DECIMAL,
-        std::num::wrapping_sub_u32(u32::MAX, bias),
-    ) else {
+    let Number::Value(units) = terminal::decode_number(part, terminal::DECIMAL, u32::MAX - bias)
+    else {
         return Number::Invalid;
     };
-    Number::Value(std::num::wrapping_add_u32(units, bias))
+    Number::Value(units.wrapping_add(bias))
 }
 
 // The index of a word among `count` ones, as a number.

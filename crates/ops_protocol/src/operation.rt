@@ -119,8 +119,7 @@ fn decode_arguments(name: usize, text: &[u8], start: usize, bytes: &mut [u8]) ->
     let kinds = KINDS;
     let mut values = [0u32; ARGUMENTS];
     let mut next = start;
-    let mut i = 0;
-    while i < ARGUMENTS {
+    for i in 0..ARGUMENTS {
         let kind = kinds[ARGUMENTS * name + i];
         if kind == b' ' {
             return Arguments {
@@ -136,7 +135,6 @@ fn decode_arguments(name: usize, text: &[u8], start: usize, bytes: &mut [u8]) ->
         };
         values[i] = value;
         next = after;
-        i += 1;
     }
     Arguments {
         values,

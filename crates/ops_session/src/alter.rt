@@ -48,10 +48,8 @@ fn range_of_number(number: u32) -> FrequencyRange {
 // The queue of these bytes: of more than 256 it has the first ones, and the length of them all.
 fn queue_of_bytes(bytes: &[u8], discarding: bool) -> Queue {
     let mut first = [0u8; LINE];
-    let mut i = 0;
-    while i < bytes.len() {
+    for i in 0..bytes.len() {
         queue::store(&mut first, i, bytes[i], true);
-        i += 1;
     }
     Queue {
         bytes: first,

@@ -94,13 +94,11 @@ fn write_word_after(rt: &impl Print, out: &mut [u8], at: usize, text: &[u8], wor
     terminal::write_hex(rt, out, end, word as u64, WORD_DIGITS)
 }
 
-// Writes the words of a trace behind the first, each after a comma.
+// Writes words, each after a comma.
 fn write_words(rt: &impl Print, out: &mut [u8], at: usize, trace: &[u32]) -> usize {
     let mut end = at;
-    let mut i = 1;
-    while i < trace.len() {
-        end = write_word_after(rt, out, end, b",", trace[i]);
-        i += 1;
+    for word in trace {
+        end = write_word_after(rt, out, end, b",", *word);
     }
     end
 }
@@ -111,7 +109,7 @@ fn write_trace(rt: &impl Print, out: &mut [u8], at: usize, text: &[u8], trace: &
         return write_bytes(rt, out, at, text);
     }
     let end = write_word_after(rt, out, at, text, trace[0]);
-    write_words(rt, out, end, trace)
+    write_words(rt, out, end, &trace[1..])
 }
 
 // Answers `dump`.

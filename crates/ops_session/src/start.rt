@@ -11,11 +11,7 @@ pub fn refused_module() -> Module {
 
 // Makes every word of a trace 0.
 fn clear_trace(trace: &mut [u32]) {
-    let mut i = 0;
-    while i < trace.len() {
-        trace[i] = 0;
-        i += 1;
-    }
+    trace.fill(0);
 }
 
 // The first n words of a trace, all of them where there are fewer.

@@ -46,7 +46,7 @@ fn print_course(
     let refused = course::run(rt, tried, script, one, two, &mut reply);
     operation::print_start(rt, one.len());
     let printed = Course {
-        has_events: refused == false,
+        has_events: !refused,
         prints: true,
         line,
         place,

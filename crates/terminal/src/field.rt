@@ -71,10 +71,8 @@ fn digits_value(digits: &[u8], base: u8) -> u64
     ensures { result ≤ 4294967296 }
 {
     let mut value = 0;
-    let mut i = 0;
-    while i < digits.len() {
-        value = append_digit(value, digits[i], base);
-        i += 1;
+    for b in digits {
+        value = append_digit(value, *b, base);
     }
     value
 }

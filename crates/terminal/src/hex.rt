@@ -30,13 +30,11 @@ fn decode_pairs(text: &[u8], bytes: &mut [u8]) -> Number {
     if MOST_BYTES < n {
         return Number::Invalid;
     }
-    let mut i = 0;
-    while i < n {
+    for i in 0..n {
         let Number::Value(b) = decode_number(&text[2 * i..2 * i + 2], HEX, LAST_BYTE) else {
             return Number::Invalid;
         };
         bytes[i] = (b % 256) as u8;
-        i += 1;
     }
     Number::Value(n as u32)
 }
@@ -90,10 +88,8 @@ fn store_hex_byte(out: &mut [u8], at: usize, b: u8)
 fn store_hex_bytes(out: &mut [u8], at: usize, bytes: &[u8]) -> usize
     requires { at + 2 * length bytes.now ≤ length out.old }
 {
-    let mut i = 0;
-    while i < bytes.len() {
+    for i in 0..bytes.len() {
         store_hex_byte(out, at + 2 * i, bytes[i]);
-        i += 1;
     }
     at + 2 * bytes.len()
 }
@@ -109,10 +105,8 @@ pub fn write_hex_bytes(rt: &impl Print, out: &mut [u8], at: usize, bytes: &[u8])
         }
     }
     let mut end = at;
-    let mut i = 0;
-    while i < bytes.len() {
-        end = write_hex_byte(rt, out, end, bytes[i]);
-        i += 1;
+    for b in bytes {
+        end = write_hex_byte(rt, out, end, *b);
     }
     end
 }

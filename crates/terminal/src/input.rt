@@ -46,12 +46,9 @@ fn append(line: &mut [u8], len: usize, part: &[u8]) -> usize {
     if line.len() - len < part.len() {
         return line.len() + 1;
     }
-    let mut i = 0;
-    while i < part.len() {
-        line[len + i] = part[i];
-        i += 1;
-    }
-    len + part.len()
+    let end = len + part.len();
+    line[len..end].copy_from_slice(part);
+    end
 }
 
 // The line with the bytes of the chunk that are part of no line yet, up to the line's end.
@@ -62,13 +59,13 @@ fn append_rest(latest: Line, chunk: &[u8], line: &mut [u8]) -> Line {
     Line {
         len,
         ending: n < rest.len(),
-        rest_start: std::num::wrapping_add_usize(latest.rest_start, n + 1),
+        rest_start: latest.rest_start.wrapping_add(n + 1),
         rest_end: latest.rest_end,
     }
 }
 
 // Stores the line behind the latest one at the start of a buffer: from the bytes of the chunk that are left, then from
-// those that are read. A proved loop has to end, so this one counts its turns down, from a number that no run uses up.
+// those that are read. A proved loop has to end, so this one counts its turns, up to a number that no run reaches.
 pub fn next_line(reader: &mut impl Read, latest: Line, chunk: &mut [u8], line: &mut [u8]) -> Line {
     let mut next = Line {
         len: 0,
@@ -76,11 +73,9 @@ pub fn next_line(reader: &mut impl Read, latest: Line, chunk: &mut [u8], line: &
         rest_start: latest.rest_start,
         rest_end: latest.rest_end,
     };
-    let mut turns = u64::MAX;
-    while turns > 0 {
+    for _ in 0..u64::MAX {
         next = append_rest(next, chunk, line);
-        let ending = next.ending;
-        if ending {
+        if next.ending {
             return next;
         }
         let n = next_chunk(reader, chunk);
@@ -89,7 +84,6 @@ pub fn next_line(reader: &mut impl Read, latest: Line, chunk: &mut [u8], line: &
         }
         next.rest_start = 0;
         next.rest_end = n;
-        turns -= 1;
     }
     next
 }

@@ -54,10 +54,8 @@ pub fn end_line(rt: &impl Print, out: &mut [u8], at: usize) {
 // Writes bytes.
 pub fn write_bytes(rt: &impl Print, out: &mut [u8], at: usize, bytes: &[u8]) -> usize {
     let mut end = at;
-    let mut i = 0;
-    while i < bytes.len() {
-        end = write_byte(rt, out, end, bytes[i]);
-        i += 1;
+    for b in bytes {
+        end = write_byte(rt, out, end, *b);
     }
     end
 }
