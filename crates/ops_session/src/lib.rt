@@ -72,33 +72,17 @@ fn run_on_slots(
     two: &mut [u32],
 ) -> Module {
     match operation {
-        Operation::Line(len, room) => call::run_call(
-            rt,
-            m,
-            CallInput::Line,
-            terminal::first_bytes(bytes, len),
-            room,
-            one,
-            two,
-        ),
-        Operation::Byte(b, mark, room) => call::run_call(
-            rt,
-            m,
-            CallInput::Byte(b, mark),
-            bytes,
-            room,
-            one,
-            two,
-        ),
-        Operation::Run(len, mark, room) => call::run_call(
-            rt,
-            m,
-            CallInput::Run(mark),
-            terminal::first_bytes(bytes, len),
-            room,
-            one,
-            two,
-        ),
+        Operation::Line(len, room) => {
+            let text = terminal::first_bytes(bytes, len);
+            call::run_call(rt, m, CallInput::Line, text, room, one, two)
+        }
+        Operation::Byte(b, mark, room) => {
+            call::run_call(rt, m, CallInput::Byte(b, mark), bytes, room, one, two)
+        }
+        Operation::Run(len, mark, room) => {
+            let run = terminal::first_bytes(bytes, len);
+            call::run_call(rt, m, CallInput::Run(mark), run, room, one, two)
+        }
         Operation::Event(e) => call::run_event(rt, m, e, one, two),
         Operation::Alter(field, value) => {
             answer::report_done(rt);
