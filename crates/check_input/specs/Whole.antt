@@ -18,7 +18,7 @@ pub record Whole : Type 0 where
   pub verdict_numbers : (input lent : List ℕ) → script_limit < length lent →
       verdict_from (after_bytes input (memory start_input lent)) ≡ input_verdict input
 
--- what is read: some bytes, and the memory after them. Which bytes a call of C reads no contract can say
+-- what is read: some bytes, and the memory after them. Which bytes standard input gives no contract can say
 pub record Reads (first after : Memory) : Type 0 where
   pub bytes : List ℕ
   pub stored : after ≡ after_bytes bytes first
