@@ -1,1 +1,3 @@
+#![tactic(auto)]
+
 // No function of its own: laws on tests, which the other crates' proofs share.

@@ -14,7 +14,7 @@ use Rattle.split.specs.Divide.{span, after}
 use Rattle.split.proofs.Span.{span_le, rest_from}
 use Rattle.laws.proofs.Tests.{split}
 use Rattle.number.specs.Number.{minus, letter_e, begins, unsigned, all_digits, is_exponent, is_mantissa, has_exponent, is_number}
-use Rattle.number.specs.Value.{decimal_after, up, down, exact_of}
+use Rattle.number.specs.Value.{decimal_after, exact_of}
 use Rattle.number.specs.Parts.{quantity_of, read_of}
 use Rattle.number.specs.TextParts.{short_of, exponent_of, raised_by, lowered_by, TwoDigits, Bounded, moved, digits_of, mantissa_of, with_exponent, unsigned_of}
 use Rattle.number.specs.declared.text.Short.{Short}

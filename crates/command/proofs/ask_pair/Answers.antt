@@ -1,7 +1,6 @@
 -- `command::ask_pair` meets its contract. Assumes nothing.
 use mathlib.Core.Path.{sym, ◌∙◌}
 use Rattle.command.specs.Parts.{pair_asked}
-use borrow.Author.Rules.{rules}
 use Rattle.command.proofs.ask_pair.Goals as goal
 
 pub returns-in_default : goal.returns-in_default

@@ -1,7 +1,6 @@
 -- `command::ask_trace` meets its contract. Assumes nothing.
 use mathlib.Core.Path.{sym, ◌∙◌}
 use Rattle.command.specs.Parts.{trace_asked}
-use borrow.Author.Rules.{rules}
 use Rattle.command.proofs.ask_trace.Goals as goal
 
 pub returns-in_default : goal.returns-in_default

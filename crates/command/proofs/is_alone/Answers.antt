@@ -1,7 +1,6 @@
 -- `command::is_alone` meets its contract. Assumes nothing.
 use borrow.Author.Tests.{le-leb, lt-leb}
 use Rattle.command.specs.Parts.{alone_of}
-use borrow.Author.Rules.{rules}
 use Rattle.command.proofs.is_alone.Goals as goal
 
 pub returns-then-args-lt1 : goal.returns-then-args-lt1

@@ -2,7 +2,6 @@
 use mathlib.Core.Path.{◌∙◌}
 use native.Mathlib.Omega.{arith}
 use Rattle.command.proofs.Words.{parsed_none, parsed_short, parsed_plain, parsed_query, parsed_set}
-use borrow.Author.Rules.{rules}
 use Rattle.command.proofs.parse.Goals as goal
 
 pub returns-then-n-lt1 : goal.returns-then-n-lt1

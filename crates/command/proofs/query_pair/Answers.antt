@@ -3,7 +3,6 @@ use mathlib.Core.Path.{sym, ◌∙◌}
 use native.Mathlib.Omega.{arith}
 use Rattle.command.specs.Arguments.{arguments}
 use Rattle.command.proofs.Exact.{query-pair}
-use borrow.Author.Rules.{rules}
 use Rattle.command.proofs.query_pair.Goals as goal
 
 pub returns-in_default : goal.returns-in_default

@@ -1,7 +1,6 @@
 -- `command::query_status` meets its contract. Assumes nothing.
 use mathlib.Core.Path.{sym, ◌∙◌}
 use Rattle.command.proofs.Exact.{status-none, status_some}
-use borrow.Author.Rules.{rules}
 use Rattle.command.proofs.query_status.Goals as goal
 
 pub returns-then-args-lt1 : goal.returns-then-args-lt1

@@ -1,6 +1,5 @@
 -- `command::query_with` meets its contract, case by case. Assumes nothing.
 use Rattle.command.specs.Parsed.{query_with}
-use borrow.Author.Rules.{rules}
 use Rattle.command.proofs.query_with.Goals as goal
 
 pub returns-in-Setting : goal.returns-in-Setting

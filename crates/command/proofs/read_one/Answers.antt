@@ -2,7 +2,6 @@
 use mathlib.Core.Path.{sym, ◌∙◌}
 use Rattle.command.specs.Parts.{read_one}
 use Rattle.command.proofs.Divided.{alone_true, alone_false}
-use borrow.Author.Rules.{rules}
 use Rattle.command.proofs.read_one.Goals as goal
 
 pub returns-then-alone : goal.returns-then-alone

@@ -2,7 +2,6 @@
 use mathlib.Core.Path.{sym, ◌∙◌}
 use lib.Seq.{length-take-le}
 use Rattle.command.proofs.Divided.{three_more, three_few}
-use borrow.Author.Rules.{rules}
 use Rattle.command.proofs.read_three.Goals as goal
 
 pub slice_bounds-read-end : goal.slice_bounds-read-end

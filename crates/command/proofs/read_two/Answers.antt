@@ -3,7 +3,6 @@ use mathlib.Core.Path.{sym, ◌∙◌}
 use native.Mathlib.Omega.{arith}
 use lib.Seq.{length-take-le}
 use Rattle.command.proofs.Divided.{two_at, two-not, two-read}
-use borrow.Author.Rules.{rules}
 use Rattle.command.proofs.read_two.Goals as goal
 
 pub returns-in_default : goal.returns-in_default

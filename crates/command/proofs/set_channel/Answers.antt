@@ -3,7 +3,6 @@ use mathlib.Core.Path.{sym, ◌∙◌}
 use native.Mathlib.Omega.{arith}
 use Rattle.command.specs.Arguments.{arguments}
 use Rattle.command.proofs.Exact.{set-channel}
-use borrow.Author.Rules.{rules}
 use Rattle.command.proofs.set_channel.Goals as goal
 
 pub returns-in_default : goal.returns-in_default

@@ -1,7 +1,6 @@
 -- `command::set_enable` meets its contract. Assumes nothing.
 use mathlib.Core.Path.{sym, ◌∙◌}
 use Rattle.command.proofs.Exact.{enable-alone, enable-bit}
-use borrow.Author.Rules.{rules}
 use Rattle.command.proofs.set_enable.Goals as goal
 
 pub returns-in_default : goal.returns-in_default

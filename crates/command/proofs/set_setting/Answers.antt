@@ -2,7 +2,6 @@
 use mathlib.Core.Path.{sym, ◌∙◌}
 use Rattle.command.specs.Arguments.{arguments}
 use Rattle.command.proofs.Exact.{set_setting_lem}
-use borrow.Author.Rules.{rules}
 use Rattle.command.proofs.set_setting.Goals as goal
 
 pub returns-in_default : goal.returns-in_default

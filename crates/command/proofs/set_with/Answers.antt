@@ -1,6 +1,5 @@
 -- `command::set_with` meets its contract, case by case. Assumes nothing.
 use Rattle.command.specs.Parsed.{set_with}
-use borrow.Author.Rules.{rules}
 use Rattle.command.proofs.set_with.Goals as goal
 
 pub returns-in-Setting : goal.returns-in-Setting

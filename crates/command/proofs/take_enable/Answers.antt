@@ -1,7 +1,6 @@
 -- `command::take_enable` meets its contract. Assumes nothing.
 use mathlib.Core.Path.{sym, ◌∙◌}
 use Rattle.command.specs.Parts.{enable_taken}
-use borrow.Author.Rules.{rules}
 use Rattle.command.proofs.take_enable.Goals as goal
 
 pub returns-in_default : goal.returns-in_default

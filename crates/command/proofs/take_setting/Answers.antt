@@ -1,7 +1,6 @@
 -- `command::take_setting` meets its contract. Assumes nothing.
 use mathlib.Core.Path.{sym, ◌∙◌}
 use Rattle.command.specs.Parts.{setting_taken}
-use borrow.Author.Rules.{rules}
 use Rattle.command.proofs.take_setting.Goals as goal
 
 pub returns-in_default : goal.returns-in_default

@@ -1,7 +1,6 @@
 -- `command::taken_alone` meets its contract. Assumes nothing.
 use mathlib.Core.Path.{◌∙◌}
 use Rattle.command.proofs.Exact.{alone-none, alone_some}
-use borrow.Author.Rules.{rules}
 use Rattle.command.proofs.taken_alone.Goals as goal
 
 pub returns-then-args-lt1 : goal.returns-then-args-lt1

@@ -1,6 +1,5 @@
 -- `command::two_of` meets its contract. Assumes nothing.
 use Rattle.command.proofs.Divided.{two_more, two-end, two_none}
-use borrow.Author.Rules.{rules}
 use Rattle.command.proofs.two_of.Goals as goal
 
 pub returns-then-next-rest : goal.returns-then-next-rest

@@ -1,7 +1,6 @@
 -- `command::word_of` meets its contract. Assumes nothing.
 use native.Mathlib.Omega.{arith}
 use Rattle.command.proofs.Words.{four_word}
-use borrow.Author.Rules.{rules}
 use Rattle.command.proofs.word_of.Goals as goal
 
 pub overflow_cast-high : goal.overflow_cast-high

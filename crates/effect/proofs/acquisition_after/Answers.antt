@@ -1,5 +1,4 @@
 -- `effect::acquisition_after` meets its contract. Assumes nothing.
-use borrow.Author.Rules.{rules}
 use Rattle.effect.specs.Effect.{acquisition_after}
 use Rattle.effect.proofs.acquisition_after.Goals as goal
 

@@ -1,5 +1,4 @@
 -- `effect::acquisition_by` meets its contract. Assumes nothing.
-use borrow.Author.Rules.{rules}
 use Rattle.effect.specs.Effect.{acquisition_by}
 use Rattle.effect.proofs.acquisition_by.Goals as goal
 

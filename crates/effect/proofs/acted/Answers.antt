@@ -1,5 +1,4 @@
 -- `effect::acted` meets its contract. Assumes nothing.
-use borrow.Author.Rules.{rules}
 use Rattle.effect.proofs.acted.Goals as goal
 
 pub returns-in-Reset : goal.returns-in-Reset

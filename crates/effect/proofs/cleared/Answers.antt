@@ -1,5 +1,4 @@
 -- `effect::cleared` meets its contract. Assumes nothing.
-use borrow.Author.Rules.{rules}
 use Rattle.effect.proofs.cleared.Goals as goal
 
 pub returns : goal.returns

@@ -1,5 +1,4 @@
 -- `effect::enables_set` meets its contract. Assumes nothing.
-use borrow.Author.Rules.{rules}
 use Rattle.effect.specs.Effect.{enables_set}
 use Rattle.effect.proofs.enables_set.Goals as goal
 

@@ -1,5 +1,4 @@
 -- `effect::pair_in` meets its contract. Assumes nothing.
-use borrow.Author.Rules.{rules}
 use Rattle.effect.specs.Effect.{with_pair}
 use Rattle.effect.proofs.pair_in.Goals as goal
 

@@ -1,5 +1,4 @@
 -- `effect::queried` meets its contract. Assumes nothing.
-use borrow.Author.Rules.{rules}
 use Rattle.effect.proofs.queried.Goals as goal
 
 pub returns : goal.returns

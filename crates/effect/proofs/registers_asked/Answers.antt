@@ -1,5 +1,4 @@
 -- `effect::registers_asked` meets its contract. Assumes nothing.
-use borrow.Author.Rules.{rules}
 use Rattle.effect.specs.Effect.{registers_asked}
 use Rattle.effect.proofs.registers_asked.Goals as goal
 

@@ -1,5 +1,4 @@
 -- `effect::reset` meets its contract. Assumes nothing.
-use borrow.Author.Rules.{rules}
 use Rattle.effect.proofs.reset.Goals as goal
 
 pub returns : goal.returns

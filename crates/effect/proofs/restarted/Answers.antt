@@ -1,6 +1,5 @@
 -- `effect::restarted` meets its contract. Assumes nothing.
 use mathlib.Core.Path.{sym, ◌∙◌}
-use borrow.Author.Rules.{rules}
 use Rattle.effect.specs.Effect.{restarted_by}
 use Rattle.effect.proofs.restarted.Goals as goal
 

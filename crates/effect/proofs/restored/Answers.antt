@@ -1,6 +1,5 @@
 -- `effect::restored` meets its contract. Assumes nothing.
 use mathlib.Core.Path.{sym, ◌∙◌}
-use borrow.Author.Rules.{rules}
 use Rattle.effect.specs.Effect.{restored_by}
 use Rattle.effect.proofs.restored.Goals as goal
 

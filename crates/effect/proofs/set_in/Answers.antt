@@ -1,5 +1,4 @@
 -- `effect::set_in` meets its contract. Assumes nothing.
-use borrow.Author.Rules.{rules}
 use Rattle.effect.specs.Effect.{set_in}
 use Rattle.effect.proofs.set_in.Goals as goal
 

@@ -1,5 +1,4 @@
 -- `effect::set_state` meets its contract. Assumes nothing.
-use borrow.Author.Rules.{rules}
 use Rattle.effect.proofs.set_state.Goals as goal
 
 pub returns : goal.returns

@@ -1,5 +1,4 @@
 -- `effect::settings_after` meets its contract. Assumes nothing.
-use borrow.Author.Rules.{rules}
 use Rattle.effect.specs.Effect.{settings_after}
 use Rattle.effect.proofs.settings_after.Goals as goal
 

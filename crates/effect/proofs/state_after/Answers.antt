@@ -1,5 +1,4 @@
 -- `effect::state_after` meets its contract. Assumes nothing.
-use borrow.Author.Rules.{rules}
 use Rattle.effect.proofs.state_after.Goals as goal
 
 -- a set

@@ -1,5 +1,4 @@
 -- `effect::storage_after` meets its contract. Assumes nothing.
-use borrow.Author.Rules.{rules}
 use Rattle.effect.specs.Effect.{storage_after}
 use Rattle.effect.proofs.storage_after.Goals as goal
 

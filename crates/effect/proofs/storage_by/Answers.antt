@@ -1,5 +1,4 @@
 -- `effect::storage_by` meets its contract. Assumes nothing.
-use borrow.Author.Rules.{rules}
 use Rattle.effect.specs.Effect.{storage_by}
 use Rattle.effect.proofs.storage_by.Goals as goal
 

@@ -1,7 +1,6 @@
 -- `event::measured` meets its contract. Assumes nothing.
 use Rattle.event.specs.Event.{measured_by}
 use mathlib.Core.Path.{sym, ◌∙◌}
-use borrow.Author.Rules.{rules}
 use Rattle.event.proofs.measured.Goals as goal
 
 pub returns-then-is_internal : goal.returns-then-is_internal

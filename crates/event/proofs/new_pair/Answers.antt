@@ -1,7 +1,6 @@
 -- `event::new_pair` meets its contract. Assumes nothing.
 use Rattle.event.specs.Event.{latest_taken}
 use mathlib.Core.Path.{sym, ◌∙◌}
-use borrow.Author.Rules.{rules}
 use Rattle.event.proofs.new_pair.Goals as goal
 
 pub returns-then-latest_valid : goal.returns-then-latest_valid

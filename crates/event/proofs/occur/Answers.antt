@@ -2,7 +2,6 @@
 use mathlib.Core.List.{[]}
 use Rattle.reply_buffer.proofs.After.{silent-meets}
 use Rattle.event.specs.Event.{event_effect, event_of}
-use borrow.Author.Rules.{rules}
 use Rattle.event.proofs.occur.Goals as goal
 
 pub returns-in-Latest : goal.returns-in-Latest

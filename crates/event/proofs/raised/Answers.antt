@@ -1,7 +1,6 @@
 -- `event::raised` meets its contract. Assumes nothing.
 use Rattle.event.specs.Event.{bits_raised}
 use mathlib.Core.Path.{sym, ◌∙◌}
-use borrow.Author.Rules.{rules}
 use Rattle.event.proofs.raised.Goals as goal
 
 pub returns-then-may_raise : goal.returns-then-may_raise

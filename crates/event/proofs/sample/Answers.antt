@@ -3,7 +3,6 @@ use Rattle.event.specs.Event.{sampled_in}
 use mathlib.Core.Path.{sym}
 use mathlib.Core.List.{[]}
 use Rattle.reply_buffer.proofs.Over.{over_none}
-use borrow.Author.Rules.{rules}
 use Rattle.event.proofs.sample.Goals as goal
 
 pub returns : goal.returns

@@ -1,5 +1,4 @@
 -- `extreme_courses::before_line` meets its contract. Assumes nothing.
-use borrow.Author.Rules.{rules}
 use Rattle.extreme_courses.specs.Extremes.{before_line}
 use Rattle.extreme_courses.proofs.before_line.Goals as goal
 

@@ -1,5 +1,4 @@
 -- `extreme_courses::begun_after` meets its contract. Assumes nothing.
-use borrow.Author.Rules.{rules}
 use Rattle.extreme_courses.proofs.begun_after.Goals as goal
 
 pub returns-then-begun : goal.returns-then-begun

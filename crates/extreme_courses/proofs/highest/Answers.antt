@@ -1,7 +1,6 @@
 -- `extreme_courses::highest` meets its contract. Assumes nothing.
 use mathlib.Core.Path.{sym}
 use native.Mathlib.Nat.{div-zero}
-use borrow.Author.Rules.{rules}
 use Rattle.extreme_courses.proofs.highest.Goals as goal
 
 pub returns-then-harmonic-eq0 : goal.returns-then-harmonic-eq0

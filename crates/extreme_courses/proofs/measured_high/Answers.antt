@@ -1,6 +1,5 @@
 -- `extreme_courses::measured_high` meets its contract. Assumes nothing.
 use mathlib.Core.Path.{sym, ◌∙◌}
-use borrow.Author.Rules.{rules}
 use Rattle.extreme_courses.specs.Extremes.{measured_high}
 use Rattle.extreme_courses.proofs.measured_high.Goals as goal
 

@@ -1,5 +1,4 @@
 -- `extreme_courses::start_extremes` meets its contract. Assumes nothing.
-use borrow.Author.Rules.{rules}
 use Rattle.extreme_courses.proofs.start_extremes.Goals as goal
 
 pub returns : goal.returns

@@ -1,5 +1,4 @@
 -- `extreme_courses::text_after` meets its contract. Assumes nothing.
-use borrow.Author.Rules.{rules}
 use Rattle.extreme_courses.specs.Extremes.{text_after}
 use Rattle.extreme_courses.proofs.text_after.Goals as goal
 

@@ -1,5 +1,4 @@
 -- `extreme_courses::text_refusal` meets its contract. Assumes nothing.
-use borrow.Author.Rules.{rules}
 use Rattle.extreme_courses.specs.Extremes.{text_refusal}
 use Rattle.extreme_courses.proofs.text_refusal.Goals as goal
 

@@ -1,5 +1,4 @@
 -- `extreme_courses::triggered_high` meets its contract. Assumes nothing.
-use borrow.Author.Rules.{rules}
 use Rattle.extreme_courses.specs.Extremes.{triggered_high}
 use Rattle.extreme_courses.proofs.triggered_high.Goals as goal
 

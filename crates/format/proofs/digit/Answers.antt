@@ -1,6 +1,4 @@
 -- `format::digit` meets its contract: the last digit of what stands before the places passed over. Assumes nothing.
-use native.Mathlib.Omega.{arith}
-use borrow.Author.Rules.{rules}
 use Rattle.format.proofs.digit.Goals as goal
 
 pub returns : goal.returns

@@ -1,6 +1,5 @@
 -- `format::push_fixed` meets its contract: with no decimals the plain number, else the whole part, the point and the decimals. Assumes nothing.
 use mathlib.Core.Path.{◌∙◌}
-use borrow.Author.Rules.{rules}
 use Rattle.format.specs.Parts.{bytes_of}
 use Rattle.format.proofs.Value.{fixed_plain, fixed_added}
 use Rattle.format.proofs.push_fixed.Goals as goal

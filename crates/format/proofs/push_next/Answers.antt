@@ -1,7 +1,6 @@
 -- `format::push_next` meets its contract: a comma, then the value. Assumes nothing.
 use mathlib.Core.Path.{◌∙◌}
 use Rattle.format.proofs.Appended.{added_join}
-use borrow.Author.Rules.{rules}
 use Rattle.format.proofs.push_next.Goals as goal
 
 pub returns : goal.returns

@@ -1,13 +1,9 @@
 -- `format::push_padded` meets its contract: the digits left to write, added to the text so far, make what all of them make. Assumes nothing.
 use Prim.Native.Nat.{◌≤◌}
-use mathlib.Core.Path.{◌≡◌, refl, sym, ◌∙◌}
-use native.Mathlib.Omega.{arith}
+use mathlib.Core.Path.{◌≡◌}
 use lib.ListN.{length}
-use borrow.Author.Rules.{rules}
 use Rattle.format.specs.Text.{padded}
 use Rattle.format.specs.Parts.{text_limit, bytes_of, appended}
-use Rattle.format.proofs.Appended.{added_none, added_length, text-length}
-use Rattle.format.proofs.Digits.{padded-empty, padded_added}
 use Rattle.format.proofs.push_padded.Given as goal
 
 abbrev pub invariant-loop-left : goal.invariant-loop-left

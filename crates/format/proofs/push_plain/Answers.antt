@@ -1,6 +1,5 @@
 -- `format::push_plain` meets its contract: the last digits of the value, as many as it has. Assumes nothing.
 use mathlib.Core.Path.{◌∙◌}
-use borrow.Author.Rules.{rules}
 use Rattle.format.specs.Text.{plain}
 use Rattle.format.proofs.push_plain.Goals as goal
 

@@ -1,6 +1,5 @@
 -- `format::push_value` meets its contract: the sign, then how far the value is from zero. Assumes nothing.
 use mathlib.Core.Path.{◌∙◌}
-use borrow.Author.Rules.{rules}
 use Rattle.format.specs.Text.{signed_text}
 use Rattle.format.proofs.Appended.{added_join}
 use Rattle.format.proofs.push_value.Goals as goal

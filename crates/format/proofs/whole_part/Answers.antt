@@ -1,5 +1,4 @@
 -- `format::whole_part` meets its contract: after i turns the rest is the value divided by 10 ^ i. Assumes nothing.
-use Prim.Native.Nat.{◌-◌, ◌/◌, ◌^◌, ◌≤◌}
 use mathlib.Core.Path.{◌≡◌, sym}
 use native.Mathlib.Omega.{arith}
 use native.Mathlib.Nat.{div-one}

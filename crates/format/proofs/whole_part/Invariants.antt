@@ -1,9 +1,6 @@
 -- `format::whole_part` meets its contract: after i turns the rest is the value divided by 10 ^ i. Assumes nothing.
 use Prim.Native.Nat.{◌-◌, ◌/◌, ◌^◌, ◌≤◌}
-use mathlib.Core.Path.{◌≡◌, sym}
-use native.Mathlib.Omega.{arith}
-use native.Mathlib.Nat.{div-one}
-use Rattle.format.proofs.Digits.{tenth}
+use mathlib.Core.Path.{◌≡◌}
 use Rattle.format.proofs.whole_part.Given as goal
 
 abbrev pub invariant-loop-i : goal.invariant-loop-i

@@ -1,10 +1,7 @@
 -- `line_text::clean` meets its contract: what is kept and what is still to come make the whole. Assumes nothing.
-use Prim.Native.Nat.{◌≤◌, ◌-◌}
-use mathlib.Core.Path.{◌≡◌, refl, sym, ◌∙◌}
-use mathlib.Core.List.{◌++◌}
+use mathlib.Core.Path.{refl, sym, ◌∙◌}
 use native.Mathlib.Omega.{arith}
-use lib.ListN.{length, length-set, take, drop}
-use Rattle.line_text.specs.Clean.{cleaned}
+use lib.ListN.{length-set}
 use Rattle.line_text.proofs.Kept.{cleaned-drop, cleaned_keep, cleaned-end, kept_more, kept_full, kept_all}
 use Rattle.line_text.proofs.clean.Goals as goal
 

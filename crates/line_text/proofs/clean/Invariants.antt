@@ -1,11 +1,9 @@
 -- `line_text::clean` meets its contract: what is kept and what is still to come make the whole. Assumes nothing.
 use Prim.Native.Nat.{◌≤◌, ◌-◌}
-use mathlib.Core.Path.{◌≡◌, refl, sym, ◌∙◌}
+use mathlib.Core.Path.{◌≡◌}
 use mathlib.Core.List.{◌++◌}
-use native.Mathlib.Omega.{arith}
-use lib.ListN.{length, length-set, take, drop}
+use lib.ListN.{length, take, drop}
 use Rattle.line_text.specs.Clean.{cleaned}
-use Rattle.line_text.proofs.Kept.{cleaned-drop, cleaned_keep, cleaned-end, kept_more, kept_full, kept_all}
 use Rattle.line_text.proofs.clean.Given as goal
 
 abbrev pub invariant-loop-i : goal.invariant-loop-i

@@ -1,5 +1,4 @@
 -- `module::fresh` meets its contract. Assumes nothing.
-use borrow.Author.Rules.{rules}
 use Rattle.module.specs.Start.{fresh_module}
 use Rattle.module.proofs.fresh.Goals as goal
 

@@ -1,6 +1,5 @@
 -- `module::guard` meets its contract: 11, then 9. Assumes nothing.
 use mathlib.Core.Path.{sym, ◌∙◌}
-use borrow.Author.Rules.{rules}
 use Rattle.module.specs.Module.{guard_of}
 use Rattle.module.proofs.guard.Goals as goal
 

@@ -1,6 +1,5 @@
 -- `module::installation_known` meets its contract. Assumes nothing.
 use mathlib.Core.Path.{refl}
-use borrow.Author.Rules.{rules}
 use Rattle.module.specs.Start.{installation_known}
 use Rattle.module.proofs.installation_known.Goals as goal
 

@@ -1,5 +1,4 @@
 -- `module::is_valid` meets its contract. Assumes nothing.
-use borrow.Author.Rules.{rules}
 use Rattle.module.specs.Module.{valid_module}
 use Rattle.module.proofs.is_valid.Goals as goal
 

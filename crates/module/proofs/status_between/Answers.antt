@@ -1,5 +1,4 @@
 -- `module::status_between` meets its contract. Assumes nothing.
-use borrow.Author.Rules.{rules}
 use Rattle.module.specs.Module.{status_between}
 use Rattle.module.proofs.status_between.Goals as goal
 

@@ -1,6 +1,5 @@
 -- `module::traces_fit` meets its contract. Assumes nothing.
 use mathlib.Core.Path.{refl}
-use borrow.Author.Rules.{rules}
 use Rattle.module.specs.Start.{traces_fit}
 use Rattle.module.proofs.traces_fit.Goals as goal
 

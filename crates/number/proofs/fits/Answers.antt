@@ -1,7 +1,5 @@
-
 use borrow.Author.Tests.{le-leb, lt-leb}
 use Rattle.number.specs.Parts.{fits_range}
-use borrow.Author.Rules.{rules}
 use Rattle.number.proofs.fits.Goals as goal
 
 pub returns-then-bias-exact : goal.returns-then-bias-exact

@@ -1,7 +1,5 @@
-
 use Rattle.number.specs.Parts.{placed_in}
 use native.Mathlib.Omega.{arith}
-use borrow.Author.Rules.{rules}
 use Rattle.number.proofs.placed.Goals as goal
 
 pub returns-then-n-bias : goal.returns-then-n-bias

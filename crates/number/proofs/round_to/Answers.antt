@@ -1,10 +1,8 @@
-
 use native.Mathlib.Nat.{mod-lt, div-le_self, mul-zero, add-zero}
 use Rattle.number.proofs.Rounding.{up_le, down_le}
 use native.Mathlib.Omega.{arith}
 use borrow.Author.Tests.{le-leb, lt-leb}
 use Rattle.number.specs.Parts.{rounded_to}
-use borrow.Author.Rules.{rules}
 use Rattle.number.proofs.round_to.Goals as goal
 
 pub returns-then-step-eq0 : goal.returns-then-step-eq0

@@ -1,7 +1,6 @@
 -- `number::take` meets its contract. Assumes nothing.
 use borrow.Author.Tests.{lt-ltb, le-ltb}
 use Rattle.number.specs.Parts.{taken_of}
-use borrow.Author.Rules.{rules}
 use Rattle.number.proofs.take.Goals as goal
 
 pub returns-then-amount-ge-CAP : goal.returns-then-amount-ge-CAP

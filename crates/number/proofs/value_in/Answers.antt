@@ -1,7 +1,6 @@
 -- `number::value_in` meets its contract. Assumes nothing.
 use borrow.Author.Tests.{lt-ltb, le-ltb}
 use Rattle.number.specs.Parts.{value_in}
-use borrow.Author.Rules.{rules}
 use Rattle.number.proofs.value_in.Goals as goal
 
 pub returns-then-value-gt-LARGEST : goal.returns-then-value-gt-LARGEST

@@ -1,5 +1,4 @@
 -- `outcome::code_of` meets its contract, row by row. Assumes nothing.
-use borrow.Author.Rules.{rules}
 use Rattle.outcome.proofs.code_of.Goals as goal
 
 pub returns-in-Malformed : goal.returns-in-Malformed

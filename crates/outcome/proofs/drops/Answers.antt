@@ -1,5 +1,4 @@
 -- `outcome::drops` meets its contract. Assumes nothing.
-use borrow.Author.Rules.{rules}
 use Rattle.outcome.specs.Answer.{is_no_room, drops}
 use Rattle.outcome.proofs.drops.Goals as goal
 

@@ -1,5 +1,4 @@
 -- `outcome::first_of` meets its contract. Assumes nothing.
-use borrow.Author.Rules.{rules}
 use Rattle.outcome.specs.Answer.{first_of}
 use Rattle.outcome.proofs.first_of.Goals as goal
 

@@ -1,5 +1,4 @@
 -- `outcome::numbers_of` meets its contract. Assumes nothing.
-use borrow.Author.Rules.{rules}
 use Rattle.outcome.specs.Answer.{numbered, numbers_of}
 use Rattle.outcome.proofs.numbers_of.Goals as goal
 

@@ -3,7 +3,6 @@ use Prim.Native.Nat.{ℕ, ◌+◌, ◌≤◌, ◌<◌}
 use native.Mathlib.Omega.{arith}
 use mathlib.Core.Bool.{Bool, true, false}
 use mathlib.Core.Path.{◌≡◌, sym, ap, ◌∙◌}
-use borrow.Author.Rules.{rules}
 use Rattle.point.specs.Point.{is_negative, is_legal, single_of, float_of}
 use Rattle.point.proofs.Digits.{single_lt, with-sign}
 use Rattle.point.proofs.Cases.{magnitude_le, exponent_le, no-point, no_magnitude, some_magnitude}

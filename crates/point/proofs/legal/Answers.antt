@@ -1,5 +1,4 @@
 -- `point::legal` meets its contract. Assumes nothing.
-use borrow.Author.Rules.{rules}
 use borrow.Author.Tests.{eq-eqb, ne_eqb}
 use Rattle.point.specs.Point.{top_byte, is_legal}
 use Rattle.point.proofs.legal.Goals as goal

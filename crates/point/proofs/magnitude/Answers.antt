@@ -1,6 +1,5 @@
 -- `point::magnitude` meets its contract. Assumes nothing.
 use mathlib.Core.Path.{sym, ◌∙◌}
-use borrow.Author.Rules.{rules}
 use Rattle.point.specs.Point.{magnitude_of}
 use Rattle.point.proofs.magnitude.Goals as goal
 

@@ -1,6 +1,5 @@
 -- `point::single` meets its contract: the highest digit of a, moved to place 23, is the one that the fraction hides. Assumes nothing.
 use native.Mathlib.Omega.{arith}
-use borrow.Author.Rules.{rules}
 use Rattle.point.specs.Single.{pattern}
 use Rattle.point.specs.Point.{single_of}
 use Rattle.point.proofs.Digits.{Placed, placed}

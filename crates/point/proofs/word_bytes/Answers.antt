@@ -1,6 +1,5 @@
 -- `point::word_bytes` meets its contract. Assumes nothing.
 use mathlib.Core.Path.{sym}
-use borrow.Author.Rules.{rules}
 use Rattle.point.proofs.Bytes.{four_bytes}
 use Rattle.point.proofs.word_bytes.Goals as goal
 

@@ -1,5 +1,4 @@
 -- `precondition::is_allowed` meets its contract. Assumes nothing.
-use borrow.Author.Rules.{rules}
 use Rattle.precondition.specs.Allowed.{is_allowed}
 use Rattle.precondition.proofs.is_allowed.Goals as goal
 

@@ -1,5 +1,4 @@
 -- `precondition::query_allowed` meets its contract. Assumes nothing.
-use borrow.Author.Rules.{rules}
 use Rattle.precondition.specs.Allowed.{query_allowed}
 use Rattle.precondition.proofs.query_allowed.Goals as goal
 

@@ -1,5 +1,4 @@
 -- `precondition::set_allowed` meets its contract. Assumes nothing.
-use borrow.Author.Rules.{rules}
 use Rattle.precondition.specs.Allowed.{set_allowed}
 use Rattle.precondition.proofs.set_allowed.Goals as goal
 

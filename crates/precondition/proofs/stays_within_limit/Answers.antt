@@ -1,5 +1,4 @@
 -- `precondition::stays_within_limit` meets its contract. Assumes nothing.
-use borrow.Author.Rules.{rules}
 use Rattle.precondition.specs.Allowed.{stays_within_limit}
 use Rattle.precondition.proofs.stays_within_limit.Goals as goal
 

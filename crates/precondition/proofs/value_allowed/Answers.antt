@@ -1,7 +1,6 @@
 -- `precondition::value_allowed` meets its contract. Assumes nothing.
 use borrow.Author.Tests.{eq-eqb, ne_eqb}
 use mathlib.Core.Path.{sym, ◌∙◌}
-use borrow.Author.Rules.{rules}
 use Rattle.precondition.specs.Allowed.{value_allowed}
 use Rattle.precondition.proofs.value_allowed.Goals as goal
 

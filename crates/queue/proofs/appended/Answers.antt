@@ -1,6 +1,5 @@
 -- `queue::appended` meets its contract: byte 257 is too long, any other is appended. Assumes nothing.
 use mathlib.Core.Path.{refl}
-use borrow.Author.Rules.{rules}
 use borrow.Author.Tests.{lt-ltb, le-ltb}
 use Rattle.queue.specs.Queue.{appended_of, too_long_of}
 use Rattle.queue.proofs.appended.Goals as goal

@@ -1,9 +1,6 @@
 -- `queue::block_ends_none` meets its contract: the test so far is exact. Assumes nothing.
 use Prim.Native.Nat.{◌≤◌, ◌-◌}
-use mathlib.Core.Path.{◌≡◌, refl}
-use native.Mathlib.Omega.{arith}
-use borrow.Author.Rules.{rules}
-use Rattle.queue.proofs.Waiting.{Exactly, none_more}
+use Rattle.queue.proofs.Waiting.{Exactly}
 use Rattle.queue.proofs.block_ends_none.Given as goal
 
 abbrev pub invariant-loop-k : goal.invariant-loop-k

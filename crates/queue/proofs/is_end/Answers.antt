@@ -1,5 +1,4 @@
 -- `queue::is_end` meets its contract: by its two tests. Assumes nothing.
-use borrow.Author.Rules.{rules}
 use Rattle.queue.proofs.is_end.Goals as goal
 
 pub returns : goal.returns

@@ -1,9 +1,5 @@
 -- `queue::passed_over` meets its contract: what is left decides, at each place passed. Assumes nothing.
-use Prim.Native.Nat.{◌-◌}
-use mathlib.Core.Path.{◌≡◌, refl, ◌∙◌}
-use borrow.Author.Rules.{rules}
-use lib.ListN.{take, drop}
-use Rattle.queue.specs.Queue.{no_end}
+use mathlib.Core.Path.{refl, ◌∙◌}
 use Rattle.queue.proofs.Waiting.{rest_skips}
 use Rattle.queue.proofs.passed_over.Goals as goal
 

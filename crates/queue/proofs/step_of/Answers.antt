@@ -1,6 +1,5 @@
 -- `queue::step_of` meets its contract: each return by the tests on the way. Assumes nothing.
 use mathlib.Core.Path.{refl, sym, ◌∙◌}
-use borrow.Author.Rules.{rules}
 use Rattle.queue.specs.Queue.{received_of, dropped_of}
 use Rattle.queue.proofs.step_of.Goals as goal
 

@@ -1,5 +1,4 @@
 -- `queue::store` meets its contract. Assumes nothing.
-use borrow.Author.Rules.{rules}
 use borrow.Author.Tests.{lt-ltb, le-ltb}
 use Rattle.queue.proofs.store.Goals as goal
 

@@ -1,6 +1,5 @@
 -- `reply::send_text` meets its contract: the text with its end is sent. Assumes nothing.
 use Rattle.reply.proofs.Sends.{says-ended}
-use borrow.Author.Rules.{rules}
 use Rattle.reply.proofs.send_text.Goals as goal
 
 pub returns : goal.returns

@@ -2,7 +2,6 @@
 -- nothing.
 use borrow.Author.Tests.{eq-eqb, ne_eqb}
 use Rattle.reply.specs.Reply.{trace_reply}
-use borrow.Author.Rules.{rules}
 use Rattle.reply.proofs.send_trace.Goals as goal
 
 pub returns-then-t-eq1 : goal.returns-then-t-eq1

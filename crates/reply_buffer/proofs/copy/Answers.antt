@@ -1,10 +1,8 @@
 -- `reply_buffer::copy` meets its contract: the bytes copied so far stand at the front, the rest is as it was. Assumes
 -- nothing.
-use Prim.Native.Nat.{◌≤◌, ◌-◌}
 use mathlib.Core.Path.{◌≡◌, refl, ◌∙◌}
-use mathlib.Core.List.{◌++◌}
 use native.Mathlib.Omega.{arith}
-use lib.ListN.{length, take, drop, length-set}
+use lib.ListN.{length-set}
 use Rattle.reply_buffer.proofs.Over.{front_more}
 use Rattle.reply_buffer.proofs.copy.Goals as goal
 

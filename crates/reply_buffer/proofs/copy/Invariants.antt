@@ -1,11 +1,9 @@
 -- `reply_buffer::copy` meets its contract: the bytes copied so far stand at the front, the rest is as it was. Assumes
 -- nothing.
 use Prim.Native.Nat.{◌≤◌, ◌-◌}
-use mathlib.Core.Path.{◌≡◌, refl, ◌∙◌}
+use mathlib.Core.Path.{◌≡◌}
 use mathlib.Core.List.{◌++◌}
-use native.Mathlib.Omega.{arith}
-use lib.ListN.{length, take, drop, length-set}
-use Rattle.reply_buffer.proofs.Over.{front_more}
+use lib.ListN.{length, take, drop}
 use Rattle.reply_buffer.proofs.copy.Given as goal
 
 abbrev pub invariant-loop-i : goal.invariant-loop-i

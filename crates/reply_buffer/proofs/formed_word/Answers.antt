@@ -1,6 +1,5 @@
 -- `reply_buffer::formed_word` meets its contract: a word is sent as it is, or as its float. Assumes nothing.
 use Rattle.reply_buffer.specs.Buffer.{formed}
-use borrow.Author.Rules.{rules}
 use Rattle.reply_buffer.proofs.formed_word.Goals as goal
 
 pub returns-in-Words : goal.returns-in-Words

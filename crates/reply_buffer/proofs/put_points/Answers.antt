@@ -1,12 +1,10 @@
 -- `reply_buffer::put_points` meets its contract: what is written so far, then the points that are left, is the whole;
 -- the measure is how many are left. Assumes nothing.
 use native.Mathlib.Nat.{add-zero, sub-zero}
-use Prim.Native.Nat.{◌+◌, ◌-◌, ◌*◌, ◌≤◌}
+use Prim.Native.Nat.{◌+◌, ◌-◌, ◌*◌}
 use mathlib.Core.Path.{◌≡◌, refl, sym, ap, ◌∙◌}
-use mathlib.Core.List.{◌++◌}
 use native.Mathlib.Omega.{arith}
-use borrow.Author.Rules.{rules}
-use lib.ListN.{length, take, drop, take-append-drop}
+use lib.ListN.{take-append-drop}
 use Rattle.reply_buffer.specs.Buffer.{overwrite, word_at, formed, point_bytes}
 use Rattle.reply_buffer.proofs.Points.{points_more}
 use Rattle.reply_buffer.proofs.put_points.Goals as goal

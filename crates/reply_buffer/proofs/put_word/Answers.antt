@@ -4,7 +4,6 @@ use native.Mathlib.Numerals.{add-one, add-two, add-three}
 use lib.ListN.{length-set}
 use lib.Seq.{sets-eq}
 use Rattle.point.specs.Bytes.{low_first, little_endian}
-use borrow.Author.Rules.{rules}
 use Rattle.reply_buffer.proofs.put_word.Goals as goal
 
 pub bounds-out-at-2 : goal.bounds-out-at-2

@@ -4,7 +4,6 @@ use lib.ListN.{length-take}
 use native.Mathlib.Omega.{arith}
 use Rattle.format.specs.Parts.{bytes_of}
 use Rattle.reply_buffer.proofs.Sending.{not-sent, text-sent}
-use borrow.Author.Rules.{rules}
 use Rattle.reply_buffer.proofs.send.Goals as goal
 
 pub returns-then-out-n : goal.returns-then-out-n

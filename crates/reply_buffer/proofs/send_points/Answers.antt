@@ -4,7 +4,6 @@ use native.Mathlib.Omega.{arith}
 use Rattle.reply_buffer.specs.Buffer.{point_bytes}
 use Rattle.reply_buffer.proofs.Over.{point_bytes-length}
 use Rattle.reply_buffer.proofs.Sending.{not-sent, points-sent}
-use borrow.Author.Rules.{rules}
 use Rattle.reply_buffer.proofs.send_points.Goals as goal
 
 pub returns-then-out-points : goal.returns-then-out-points

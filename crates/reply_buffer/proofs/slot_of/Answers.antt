@@ -2,7 +2,6 @@
 use borrow.Author.Tests.{eq-eqb, ne_eqb}
 use native.Mathlib.Nat.{mod-lt}
 use native.Mathlib.Omega.{arith}
-use borrow.Author.Rules.{rules}
 use Rattle.reply_buffer.proofs.slot_of.Goals as goal
 
 pub returns-then-slots-eq0 : goal.returns-then-slots-eq0

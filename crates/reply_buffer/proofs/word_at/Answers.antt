@@ -2,7 +2,6 @@
 use mathlib.Core.Path.{sym}
 use native.Mathlib.Omega.{arith}
 use Rattle.reply_buffer.proofs.Points.{word_slot, word_none}
-use borrow.Author.Rules.{rules}
 use Rattle.reply_buffer.proofs.word_at.Goals as goal
 
 pub returns-then-slot-trace : goal.returns-then-slot-trace

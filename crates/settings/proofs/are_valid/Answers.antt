@@ -1,5 +1,4 @@
 -- `settings::are_valid` meets its contract: every test is its definition's. Assumes nothing.
-use borrow.Author.Rules.{rules}
 use Rattle.settings.specs.Valid.{valid_settings}
 use Rattle.settings.proofs.are_valid.Goals as goal
 

@@ -1,5 +1,4 @@
 -- `settings::change_bits` meets its contract, case by case. Assumes nothing.
-use borrow.Author.Rules.{rules}
 use Rattle.settings.proofs.change_bits.Goals as goal
 
 pub returns-in-Upper-new : goal.returns-in-Upper-new

@@ -1,6 +1,5 @@
 -- `settings::in_force` meets its contract. Assumes nothing.
 use mathlib.Core.Path.{sym, ◌∙◌}
-use borrow.Author.Rules.{rules}
 use Rattle.settings.specs.Frequency.{in_force}
 use Rattle.settings.proofs.in_force.Goals as goal
 

@@ -1,12 +1,9 @@
 -- `settings::in_ranges` meets its contract: the test so far is that of the entries passed. Assumes nothing.
-use Prim.Native.Nat.{◌≤◌, ◌-◌}
 use mathlib.Core.Path.{◌≡◌, refl, ◌∙◌}
 use native.Mathlib.Omega.{arith}
-use borrow.Author.Rules.{rules}
-use lib.ListN.{get_or}
 use Rattle.settings.specs.Table.{entries}
 use Rattle.settings.specs.Valid.{every}
-use Rattle.settings.proofs.Parts.{in_range, range_more}
+use Rattle.settings.proofs.Parts.{range_more}
 use Rattle.settings.proofs.in_ranges.Goals as goal
 
 pub loop-entry-init : goal.loop-entry-init
@@ -14,13 +11,12 @@ unfolding every
 loop-entry-init c = (omega arith, refl)
 
 pub loop-entry-preserved : goal.loop-entry-preserved
-loop-entry-preserved c =
-    (
-      omega arith,
-      rw c.loop-entry.invariant.1
-          (range_more c.args.s.values _ _
-          c.leasts-least.ensures c.mosts-most.ensures c.loop-entry.entry c.loop-entry-test.true),
-    )
+loop-entry-preserved c = (
+  omega arith,
+  rw c.loop-entry.invariant.1
+      (range_more c.args.s.values _ _
+      c.leasts-least.ensures c.mosts-most.ensures c.loop-entry.entry c.loop-entry-test.true),
+)
 
 pub returns : goal.returns
 returns c = let e : c.loop-entry.entry ≡ entries = omega arith in c.loop-entry.invariant.1 ∙ rw e

@@ -1,12 +1,10 @@
 -- `settings::in_ranges` meets its contract: the test so far is that of the entries passed. Assumes nothing.
 use Prim.Native.Nat.{◌≤◌, ◌-◌}
-use mathlib.Core.Path.{◌≡◌, refl, ◌∙◌}
-use native.Mathlib.Omega.{arith}
-use borrow.Author.Rules.{rules}
+use mathlib.Core.Path.{◌≡◌}
 use lib.ListN.{get_or}
 use Rattle.settings.specs.Table.{entries}
 use Rattle.settings.specs.Valid.{every}
-use Rattle.settings.proofs.Parts.{in_range, range_more}
+use Rattle.settings.proofs.Parts.{in_range}
 use Rattle.settings.proofs.in_ranges.Given as goal
 
 abbrev pub invariant-loop-entry : goal.invariant-loop-entry

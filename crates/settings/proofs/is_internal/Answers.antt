@@ -1,5 +1,4 @@
 -- `settings::is_internal` meets its contract. Assumes nothing.
-use borrow.Author.Rules.{rules}
 use Rattle.settings.proofs.is_internal.Goals as goal
 
 pub returns : goal.returns

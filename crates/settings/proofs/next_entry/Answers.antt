@@ -1,6 +1,5 @@
 -- `settings::next_entry` meets its contract. Assumes nothing.
 use borrow.Author.Tests.{lt-ltb, le-ltb}
-use borrow.Author.Rules.{rules}
 use Rattle.settings.specs.Table.{next_entry}
 use Rattle.settings.proofs.next_entry.Goals as goal
 

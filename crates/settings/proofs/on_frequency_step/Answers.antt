@@ -4,7 +4,6 @@ use mathlib.Core.Path.{◌≡◌, refl, sym, ◌∙◌}
 use mathlib.Core.Bool.{Bool}
 use native.Mathlib.Nat.{mod-one}
 use lib.Dec.{ltb, eqb}
-use borrow.Author.Rules.{rules}
 use Rattle.settings.specs.Frequency.{frequency_step}
 use Rattle.settings.proofs.Rows.{step_cases}
 use Rattle.settings.proofs.on_frequency_step.Goals as goal
@@ -28,7 +27,7 @@ last_at : {step : ℕ} (value : ℕ) → step ≡ frequency_step value → Last 
 last_at value is = rw is (last value)
 
 pub returns-in-1 : goal.returns-in-1
-returns-in-1 c =     at _ 1 c.frequency_step.ensures c.in-1.is (rw (mod-one c.args.value))
+returns-in-1 c = at _ 1 c.frequency_step.ensures c.in-1.is (rw (mod-one c.args.value))
 
 pub returns-in-10 : goal.returns-in-10
 returns-in-10 c = at _ 10 c.frequency_step.ensures c.in-10.is refl

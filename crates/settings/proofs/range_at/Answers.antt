@@ -1,5 +1,4 @@
 -- `settings::range_at` meets its contract. Assumes nothing.
-use borrow.Author.Rules.{rules}
 use borrow.Author.Tests.{lt-ltb, le-ltb}
 use Rattle.settings.specs.Frequency.{range_at}
 use Rattle.settings.proofs.range_at.Goals as goal

@@ -1,5 +1,4 @@
 -- `settings::range_of` meets its contract. Assumes nothing.
-use borrow.Author.Rules.{rules}
 use Rattle.settings.specs.Parts.{range_of}
 use Rattle.settings.proofs.range_of.Goals as goal
 

@@ -1,5 +1,4 @@
 -- `settings::range_stands` meets its contract: each case is its definition's. Assumes nothing.
-use borrow.Author.Rules.{rules}
 use Rattle.settings.proofs.range_stands.Goals as goal
 
 pub returns-in-Upper : goal.returns-in-Upper

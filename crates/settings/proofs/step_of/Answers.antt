@@ -1,5 +1,4 @@
 -- `settings::step_of` meets its contract. Assumes nothing.
-use borrow.Author.Rules.{rules}
 use Rattle.settings.proofs.step_of.Goals as goal
 
 pub returns-then-row : goal.returns-then-row

@@ -1,5 +1,4 @@
 -- `settings::take_value` meets its contract. Assumes nothing.
-use borrow.Author.Rules.{rules}
 use Rattle.settings.specs.Parts.{value_taken}
 use Rattle.settings.proofs.take_value.Goals as goal
 

@@ -1,5 +1,4 @@
 -- `settings::time_constant_stands` meets its contract. Assumes nothing.
-use borrow.Author.Rules.{rules}
 use Rattle.settings.proofs.time_constant_stands.Goals as goal
 
 pub returns : goal.returns

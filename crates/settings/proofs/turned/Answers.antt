@@ -1,6 +1,5 @@
 -- `settings::turned` meets its contract. Assumes nothing.
 use mathlib.Core.Path.{refl}
-use borrow.Author.Rules.{rules}
 use Rattle.settings.specs.Table.{turned_of}
 use Rattle.settings.proofs.turned.Goals as goal
 

@@ -1,5 +1,4 @@
 -- `settings::turned_at` meets its contract. Assumes nothing.
-use borrow.Author.Rules.{rules}
 use Rattle.settings.specs.Setting.{turned_at}
 use Rattle.settings.proofs.turned_at.Goals as goal
 

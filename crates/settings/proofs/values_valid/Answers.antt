@@ -1,6 +1,5 @@
 -- `settings::values_valid` meets its contract: it is tested in parts. Assumes nothing.
 use mathlib.Core.Path.{sym}
-use borrow.Author.Rules.{rules}
 use Rattle.settings.proofs.Parts.{parts-valid}
 use Rattle.settings.proofs.values_valid.Goals as goal
 

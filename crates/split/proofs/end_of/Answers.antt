@@ -3,7 +3,6 @@ use Prim.Native.Nat.{◌≤◌}
 use mathlib.Core.Path.{◌≡◌}
 use lib.ListN.{length, drop, length-drop}
 use native.Mathlib.Omega.{arith}
-use borrow.Author.Rules.{rules}
 use Rattle.split.specs.Divide.{span}
 use Rattle.split.proofs.Span.{span_le, rest_from}
 use Rattle.split.proofs.end_of.Goals as goal

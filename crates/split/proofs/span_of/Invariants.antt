@@ -1,10 +1,8 @@
 -- `split::span_of` meets its contract: what is left has its first separator where the whole has it. Assumes nothing.
 use mathlib.Core.Path.{◌≡◌}
 use Prim.Native.Nat.{◌≤◌, ◌+◌, ◌-◌}
-use native.Mathlib.Omega.{arith}
 use lib.ListN.{length, drop}
 use Rattle.split.specs.Divide.{span}
-use Rattle.split.proofs.Span.{span_hit, span_miss, span-end}
 use Rattle.split.proofs.span_of.Given as goal
 
 abbrev pub invariant-loop-i : goal.invariant-loop-i

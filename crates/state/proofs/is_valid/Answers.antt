@@ -1,5 +1,4 @@
 -- `state::is_valid` meets its contract. Assumes nothing.
-use borrow.Author.Rules.{rules}
 use Rattle.state.specs.Valid.{valid_state}
 use Rattle.state.proofs.is_valid.Goals as goal
 

@@ -1,5 +1,4 @@
 -- `state::latest_valid` meets its contract. Assumes nothing.
-use borrow.Author.Rules.{rules}
 use Rattle.state.specs.Valid.{latest_valid}
 use Rattle.state.proofs.latest_valid.Goals as goal
 

@@ -1,5 +1,4 @@
 -- `state::parts_valid` meets its contract. Assumes nothing.
-use borrow.Author.Rules.{rules}
 use Rattle.state.specs.Valid.{parts_valid}
 use Rattle.state.proofs.parts_valid.Goals as goal
 

@@ -1,5 +1,4 @@
 -- `state::range_settled` meets its contract. Assumes nothing.
-use borrow.Author.Rules.{rules}
 use Rattle.state.specs.State.{range_settled}
 use Rattle.state.proofs.range_settled.Goals as goal
 

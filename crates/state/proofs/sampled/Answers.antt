@@ -1,5 +1,4 @@
 -- `state::sampled` meets its contract. Assumes nothing.
-use borrow.Author.Rules.{rules}
 use Rattle.state.specs.Storing.{sampled_by}
 use Rattle.state.proofs.sampled.Goals as goal
 

@@ -1,5 +1,4 @@
 -- `state::sampling_of` meets its contract. Assumes nothing.
-use borrow.Author.Rules.{rules}
 use Rattle.state.specs.State.{sampling_of}
 use Rattle.state.proofs.sampling_of.Goals as goal
 

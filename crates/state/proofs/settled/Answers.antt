@@ -1,5 +1,4 @@
 -- `state::settled` meets its contract. Assumes nothing.
-use borrow.Author.Rules.{rules}
 use Rattle.state.specs.State.{settled}
 use Rattle.state.proofs.settled.Goals as goal
 

@@ -1,6 +1,5 @@
 -- `state::store` meets its contract. Assumes nothing.
 use mathlib.Core.Path.{refl}
-use borrow.Author.Rules.{rules}
 use Rattle.state.specs.Storing.{stored_in}
 use Rattle.state.proofs.store.Goals as goal
 

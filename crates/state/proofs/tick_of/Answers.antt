@@ -1,5 +1,4 @@
 -- `state::tick_of` meets its contract. Assumes nothing.
-use borrow.Author.Rules.{rules}
 use Rattle.state.specs.Storing.{tick_of}
 use Rattle.state.proofs.tick_of.Goals as goal
 

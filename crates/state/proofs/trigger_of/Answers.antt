@@ -1,5 +1,4 @@
 -- `state::trigger_of` meets its contract. Assumes nothing.
-use borrow.Author.Rules.{rules}
 use Rattle.state.specs.Storing.{trigger_of}
 use Rattle.state.proofs.trigger_of.Goals as goal
 

@@ -1,5 +1,4 @@
 -- `state::with_error_bit` meets its contract. Assumes nothing.
-use borrow.Author.Rules.{rules}
 use Rattle.state.specs.State.{with_error_bit}
 use Rattle.state.proofs.with_error_bit.Goals as goal
 

@@ -1,5 +1,4 @@
 -- `status::bit_cleared` meets its contract. Assumes nothing.
-use borrow.Author.Rules.{rules}
 use Rattle.status.specs.Status.{bit_cleared}
 use Rattle.status.proofs.bit_cleared.Goals as goal
 

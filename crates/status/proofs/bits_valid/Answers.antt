@@ -1,6 +1,5 @@
 -- `status::bits_valid` meets its contract: each return by the tests on the way. Assumes nothing.
 use mathlib.Core.Path.{sym, ◌∙◌}
-use borrow.Author.Rules.{rules}
 use Rattle.status.specs.Status.{is_valid}
 use Rattle.status.proofs.bits_valid.Goals as goal
 

@@ -1,5 +1,4 @@
 -- `status::cleared` meets its contract. Assumes nothing.
-use borrow.Author.Rules.{rules}
 use Rattle.status.specs.Status.{cleared_of}
 use Rattle.status.proofs.cleared.Goals as goal
 

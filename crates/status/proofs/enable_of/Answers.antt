@@ -1,5 +1,4 @@
 -- `status::enable_of` meets its contract: case by case. Assumes nothing.
-use borrow.Author.Rules.{rules}
 use Rattle.status.specs.Status.{enable_of}
 use Rattle.status.proofs.enable_of.Goals as goal
 

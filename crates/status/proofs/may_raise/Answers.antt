@@ -1,6 +1,5 @@
 -- `status::may_raise` meets its contract. Assumes nothing.
 use mathlib.Core.Path.{sym, ◌∙◌}
-use borrow.Author.Rules.{rules}
 use Rattle.status.specs.Status.{may_raise}
 use Rattle.status.proofs.may_raise.Goals as goal
 

@@ -1,5 +1,4 @@
 -- `status::register_of` meets its contract: case by case. Assumes nothing.
-use borrow.Author.Rules.{rules}
 use Rattle.status.specs.Status.{register_of}
 use Rattle.status.proofs.register_of.Goals as goal
 

@@ -1,6 +1,5 @@
 -- `status::status_byte` meets its contract. Assumes nothing.
 use native.Mathlib.Omega.{arith}
-use borrow.Author.Rules.{rules}
 use Rattle.status.specs.Status.{status_byte}
 use Rattle.status.proofs.Flags.{flag_le, other_lt}
 use Rattle.status.proofs.status_byte.Goals as goal

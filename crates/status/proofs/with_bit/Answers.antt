@@ -1,6 +1,5 @@
 -- `status::with_bit` meets its contract. Assumes nothing.
 use borrow.Author.Tests.{eq-eqb, ne_eqb, lt-ltb, le-ltb}
-use borrow.Author.Rules.{rules}
 use Rattle.status.specs.Bits.{with_bit}
 use Rattle.status.proofs.Bits.{weight-fits}
 use Rattle.status.proofs.with_bit.Goals as goal

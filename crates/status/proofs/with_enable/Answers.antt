@@ -1,5 +1,4 @@
 -- `status::with_enable` meets its contract. Assumes nothing.
-use borrow.Author.Rules.{rules}
 use Rattle.status.specs.Status.{with_enable}
 use Rattle.status.proofs.with_enable.Goals as goal
 

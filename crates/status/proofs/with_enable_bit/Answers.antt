@@ -1,5 +1,4 @@
 -- `status::with_enable_bit` meets its contract. Assumes nothing.
-use borrow.Author.Rules.{rules}
 use Rattle.status.specs.Status.{with_enable_bit}
 use Rattle.status.proofs.with_enable_bit.Goals as goal
 

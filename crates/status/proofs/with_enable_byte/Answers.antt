@@ -1,5 +1,4 @@
 -- `status::with_enable_byte` meets its contract: case by case. Assumes nothing.
-use borrow.Author.Rules.{rules}
 use Rattle.status.specs.Status.{with_enable_byte}
 use Rattle.status.proofs.with_enable_byte.Goals as goal
 

@@ -1,5 +1,4 @@
 -- `status::with_register` meets its contract: case by case. Assumes nothing.
-use borrow.Author.Rules.{rules}
 use Rattle.status.specs.Status.{with_register}
 use Rattle.status.proofs.with_register.Goals as goal
 

@@ -1,5 +1,4 @@
 -- `storage::at_rest` meets its contract. Assumes nothing.
-use borrow.Author.Rules.{rules}
 use Rattle.storage.specs.Storage.{at_rest}
 use Rattle.storage.proofs.at_rest.Goals as goal
 

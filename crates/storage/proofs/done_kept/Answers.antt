@@ -1,6 +1,5 @@
 -- `storage::done_kept` meets its contract. Assumes nothing.
 use mathlib.Core.Path.{sym, ◌∙◌}
-use borrow.Author.Rules.{rules}
 use Rattle.storage.specs.Storage.{done_kept}
 use Rattle.storage.proofs.done_kept.Goals as goal
 

@@ -1,5 +1,4 @@
 -- `storage::held_after` meets its contract. Assumes nothing.
-use borrow.Author.Rules.{rules}
 use native.Mathlib.Omega.{arith}
 use Rattle.storage.specs.Storage.{held_after}
 use Rattle.storage.proofs.held_after.Goals as goal

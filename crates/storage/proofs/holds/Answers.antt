@@ -1,5 +1,4 @@
 -- `storage::holds` meets its contract. Assumes nothing.
-use borrow.Author.Rules.{rules}
 use mathlib.Core.Path.{refl}
 use Rattle.storage.specs.Storage.{holds_of}
 use Rattle.storage.proofs.holds.Goals as goal

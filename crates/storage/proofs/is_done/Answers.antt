@@ -1,5 +1,4 @@
 -- `storage::is_done` meets its contract. Assumes nothing.
-use borrow.Author.Rules.{rules}
 use Rattle.storage.specs.Storage.{is_done}
 use Rattle.storage.proofs.is_done.Goals as goal
 

@@ -1,5 +1,4 @@
 -- `storage::is_paused` meets its contract. Assumes nothing.
-use borrow.Author.Rules.{rules}
 use Rattle.storage.specs.Storage.{is_paused}
 use Rattle.storage.proofs.is_paused.Goals as goal
 

@@ -1,5 +1,4 @@
 -- `storage::is_reset` meets its contract. Assumes nothing.
-use borrow.Author.Rules.{rules}
 use Rattle.storage.specs.Storage.{is_reset}
 use Rattle.storage.proofs.is_reset.Goals as goal
 

@@ -1,5 +1,4 @@
 -- `storage::is_running` meets its contract. Assumes nothing.
-use borrow.Author.Rules.{rules}
 use Rattle.storage.specs.Storage.{is_running}
 use Rattle.storage.proofs.is_running.Goals as goal
 

@@ -1,5 +1,4 @@
 -- `storage::is_valid` meets its contract. Assumes nothing.
-use borrow.Author.Rules.{rules}
 use Rattle.storage.specs.Storage.{is_valid}
 use Rattle.storage.proofs.is_valid.Goals as goal
 

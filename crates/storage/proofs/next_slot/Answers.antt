@@ -1,5 +1,4 @@
 -- `storage::next_slot` meets its contract. Assumes nothing.
-use borrow.Author.Rules.{rules}
 use borrow.Author.Tests.{lt-ltb, le-ltb}
 use Rattle.storage.specs.Storage.{next_slot}
 use Rattle.storage.proofs.next_slot.Goals as goal

@@ -1,5 +1,4 @@
 -- `storage::oldest` meets its contract. Assumes nothing.
-use borrow.Author.Rules.{rules}
 use native.Mathlib.Omega.{arith}
 use Rattle.storage.specs.Storage.{oldest_of}
 use Rattle.storage.proofs.oldest.Goals as goal

@@ -1,6 +1,5 @@
 -- `storage::paused` meets its contract. Assumes nothing.
 use mathlib.Core.Path.{sym, ◌∙◌}
-use borrow.Author.Rules.{rules}
 use Rattle.storage.specs.Storage.{paused_of}
 use Rattle.storage.proofs.paused.Goals as goal
 

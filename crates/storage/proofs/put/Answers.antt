@@ -1,5 +1,4 @@
 -- `storage::put` meets its contract. Assumes nothing.
-use borrow.Author.Rules.{rules}
 use mathlib.Core.Path.{sym}
 use lib.Seq.{set_out}
 use Rattle.storage.proofs.put.Goals as goal

@@ -1,5 +1,4 @@
 -- `storage::readied` meets its contract. Assumes nothing.
-use borrow.Author.Rules.{rules}
 use borrow.Author.Tests.{eq-eqb, ne_eqb}
 use Rattle.storage.specs.Storage.{readied_of}
 use Rattle.storage.proofs.readied.Goals as goal

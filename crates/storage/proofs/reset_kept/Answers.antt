@@ -1,5 +1,4 @@
 -- `storage::reset_kept` meets its contract. Assumes nothing.
-use borrow.Author.Rules.{rules}
 use mathlib.Core.Path.{sym, ◌∙◌}
 use Rattle.storage.specs.Storage.{reset_kept}
 use Rattle.storage.proofs.reset_kept.Goals as goal

@@ -1,5 +1,4 @@
 -- `storage::started` meets its contract. Assumes nothing.
-use borrow.Author.Rules.{rules}
 use Rattle.storage.specs.Storage.{started_of}
 use Rattle.storage.proofs.started.Goals as goal
 

@@ -1,5 +1,4 @@
 -- `storage::stored` meets its contract. Assumes nothing.
-use borrow.Author.Rules.{rules}
 use mathlib.Core.Path.{sym, ◌∙◌}
 use Rattle.storage.specs.Storage.{stored_of}
 use Rattle.storage.proofs.stored.Goals as goal

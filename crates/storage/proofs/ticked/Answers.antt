@@ -1,5 +1,4 @@
 -- `storage::ticked` meets its contract. Assumes nothing.
-use borrow.Author.Rules.{rules}
 use mathlib.Core.Path.{sym, ◌∙◌}
 use borrow.Author.Tests.{eq-eqb, ne_eqb}
 use Rattle.storage.specs.Storage.{tick_stores, ticked_of}

@@ -1,9 +1,6 @@
 -- `number::all_digits` meets its contract: what is left is all digits where the whole is. Assumes nothing.
-use Prim.Native.Nat.{◌≤◌, ◌-◌}
-use mathlib.Core.Path.{◌≡◌, refl, sym, ◌∙◌}
+use mathlib.Core.Path.{refl, sym, ◌∙◌}
 use native.Mathlib.Omega.{arith}
-use lib.ListN.{length, drop}
-use Rattle.number.specs.Number.{all_digits}
 use Rattle.number.proofs.Scan.{digits_low, digits-high, digits_more, digits-end}
 use Rattle.number.proofs.text.all_digits.Goals as goal
 

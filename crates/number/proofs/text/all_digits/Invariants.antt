@@ -1,10 +1,8 @@
 -- `number::all_digits` meets its contract: what is left is all digits where the whole is. Assumes nothing.
 use Prim.Native.Nat.{◌≤◌, ◌-◌}
-use mathlib.Core.Path.{◌≡◌, refl, sym, ◌∙◌}
-use native.Mathlib.Omega.{arith}
+use mathlib.Core.Path.{◌≡◌}
 use lib.ListN.{length, drop}
 use Rattle.number.specs.Number.{all_digits}
-use Rattle.number.proofs.Scan.{digits_low, digits-high, digits_more, digits-end}
 use Rattle.number.proofs.text.all_digits.Given as goal
 
 abbrev pub invariant-loop-i : goal.invariant-loop-i

@@ -1,6 +1,5 @@
 -- `number::digit_at` meets its contract. Assumes nothing.
 use Rattle.number.proofs.Scan.{in_front, in_back, after_both}
-use borrow.Author.Rules.{rules}
 use Rattle.number.proofs.text.digit_at.Goals as goal
 
 pub returns-then-index-n : goal.returns-then-index-n

@@ -1,5 +1,4 @@
 -- `number::lowered` meets its contract. Assumes nothing.
-use borrow.Author.Rules.{rules}
 use Rattle.number.proofs.text.lowered.Goals as goal
 
 pub returns-in-Of : goal.returns-in-Of

@@ -1,5 +1,4 @@
 -- `number::raised` meets its contract. Assumes nothing.
-use borrow.Author.Rules.{rules}
 use Rattle.number.proofs.text.raised.Goals as goal
 
 pub returns-in-Of : goal.returns-in-Of

@@ -1,7 +1,6 @@
 -- `number::read` meets its contract. Assumes nothing.
 use Rattle.number.proofs.Parsing.{read_none, read-minus, read-plus, read_plain}
 use mathlib.Core.Path.{◌∙◌}
-use borrow.Author.Rules.{rules}
 use Rattle.number.proofs.text.read.Goals as goal
 
 pub returns-then-text-lt1 : goal.returns-then-text-lt1

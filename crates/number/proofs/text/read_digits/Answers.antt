@@ -3,7 +3,6 @@ use mathlib.Core.Path.{sym, ◌∙◌}
 use mathlib.Core.Bool.{true, false}
 use Rattle.number.proofs.Parsing.{digits_few, digits_many, digits-read}
 use Rattle.number.proofs.Scan.{digits-both, digits-not-first, digits-not-second}
-use borrow.Author.Rules.{rules}
 use Rattle.number.proofs.text.read_digits.Goals as goal
 
 pub returns-then-n-lt1 : goal.returns-then-n-lt1

@@ -2,7 +2,6 @@
 use Rattle.split.proofs.Span.{rest_from}
 use Rattle.number.proofs.Parsing.{exponent-none, exponent-minus, exponent-plus, exponent-plain, lowered_bounded, raised_bounded}
 use mathlib.Core.Path.{◌∙◌}
-use borrow.Author.Rules.{rules}
 use Rattle.number.proofs.text.read_exponent.Goals as goal
 
 pub returns-then-x-lt1 : goal.returns-then-x-lt1

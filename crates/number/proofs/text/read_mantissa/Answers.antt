@@ -2,7 +2,6 @@
 use lib.Seq.{length-take-le}
 use Rattle.number.proofs.Parsing.{mantissa_point, mantissa_plain}
 use mathlib.Core.Path.{sym, ◌∙◌}
-use borrow.Author.Rules.{rules}
 use Rattle.number.proofs.text.read_mantissa.Goals as goal
 
 pub slice_bounds-read_digits-end : goal.slice_bounds-read_digits-end

@@ -3,7 +3,6 @@ use native.Mathlib.Omega.{arith}
 use lib.Seq.{length-take-le}
 use Rattle.number.proofs.Parsing.{unsigned_wrong, unsigned_power, unsigned-plain, power_bounded}
 use mathlib.Core.Path.{sym, ◌∙◌}
-use borrow.Author.Rules.{rules}
 use Rattle.number.proofs.text.read_unsigned.Goals as goal
 
 pub returns-in_default : goal.returns-in_default

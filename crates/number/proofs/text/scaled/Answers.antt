@@ -4,7 +4,6 @@ use mathlib.Core.Path.{sym}
 use native.Mathlib.Omega.{arith}
 use lib.ListN.{length}
 use Rattle.number.proofs.Places.{scaled_within, scaled_beyond}
-use borrow.Author.Rules.{rules}
 use Rattle.number.proofs.text.scaled.Goals as goal
 
 pub returns-then-point-down : goal.returns-then-point-down

@@ -3,7 +3,6 @@ use mathlib.Core.Path.{sym, ◌∙◌}
 use native.Mathlib.Omega.{arith}
 use Rattle.number.proofs.Parsing.{short_few, short_many, short_wrong, short-one, short-two}
 use Rattle.number.proofs.Scan.{digit_at_place}
-use borrow.Author.Rules.{rules}
 use Rattle.number.proofs.text.short_number.Goals as goal
 
 pub returns-then-n-lt1 : goal.returns-then-n-lt1

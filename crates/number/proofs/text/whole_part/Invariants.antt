@@ -1,13 +1,9 @@
 -- `number::whole_part` meets its contract: the digits passed make the value. Assumes nothing.
 use Prim.Native.Nat.{◌≤◌, ◌-◌, min}
-use mathlib.Core.Path.{◌≡◌, refl, ap, ◌∙◌}
+use mathlib.Core.Path.{◌≡◌}
 use mathlib.Core.List.{◌++◌}
-use native.Mathlib.Omega.{arith}
-use native.Mathlib.Nat.{min-le_left}
 use Rattle.number.specs.Parts.{cap}
 use Rattle.number.specs.TextParts.{digits_value}
-use Rattle.number.proofs.Places.{digit_range}
-use Rattle.number.proofs.Scan.{grow}
 use Rattle.number.proofs.text.whole_part.Given as goal
 
 abbrev pub invariant-loop-index : goal.invariant-loop-index

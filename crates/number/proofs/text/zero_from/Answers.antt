@@ -1,10 +1,8 @@
 -- `number::zero_from` meets its contract: what is left is all 0 where the whole is. Assumes nothing.
-use Prim.Native.Nat.{◌-◌}
-use mathlib.Core.Path.{◌≡◌, refl, sym, ◌∙◌}
+use mathlib.Core.Path.{refl, sym, ◌∙◌}
 use mathlib.Core.List.{◌++◌}
 use native.Mathlib.Omega.{arith}
-use lib.ListN.{length-append, drop}
-use Rattle.number.specs.TextParts.{all_zero}
+use lib.ListN.{length-append}
 use Rattle.number.proofs.Scan.{zeros-stop, zeros_more, zeros-end}
 use Rattle.number.proofs.text.zero_from.Goals as goal
 

@@ -1,6 +1,5 @@
 -- `reply::identity_text` meets its contract: the make, the serial and the version, 27 bytes. Assumes nothing.
 use Rattle.reply.proofs.Texts.{says_identity}
-use borrow.Author.Rules.{rules}
 use Rattle.reply.proofs.text.identity_text.Goals as goal
 
 pub returns : goal.returns

@@ -1,12 +1,10 @@
 -- `reply::push_all` meets its contract: the text so far is the text at first with the bytes passed. Assumes
 -- nothing.
-use Prim.Native.Nat.{◌≤◌, ◌-◌}
-use mathlib.Core.Path.{◌≡◌, sym, ◌∙◌}
+use mathlib.Core.Path.{sym, ◌∙◌}
 use native.Mathlib.Omega.{arith}
-use lib.ListN.{length, take}
 use lib.Seq.{take_all}
 use borrow.Author.Rules.{rules}
-use Rattle.format.specs.Parts.{bytes_of, appended}
+use Rattle.format.specs.Parts.{bytes_of}
 use Rattle.format.proofs.Appended.{added_none, text-length}
 use Rattle.reply.proofs.Texts.{added_more}
 use Rattle.reply.proofs.text.push_all.Goals as goal

@@ -1,14 +1,9 @@
 -- `reply::push_all` meets its contract: the text so far is the text at first with the bytes passed. Assumes
 -- nothing.
 use Prim.Native.Nat.{◌≤◌, ◌-◌}
-use mathlib.Core.Path.{◌≡◌, sym, ◌∙◌}
-use native.Mathlib.Omega.{arith}
+use mathlib.Core.Path.{◌≡◌}
 use lib.ListN.{length, take}
-use lib.Seq.{take_all}
-use borrow.Author.Rules.{rules}
 use Rattle.format.specs.Parts.{bytes_of, appended}
-use Rattle.format.proofs.Appended.{added_none, text-length}
-use Rattle.reply.proofs.Texts.{added_more}
 use Rattle.reply.proofs.text.push_all.Given as goal
 
 abbrev pub invariant-loop-i : goal.invariant-loop-i

@@ -1,6 +1,5 @@
 -- `reply::status_now` meets its contract: storage is read, no command is idle. Assumes nothing.
 use Rattle.reply.specs.Text.{status_now}
-use borrow.Author.Rules.{rules}
 use Rattle.reply.proofs.text.status_now.Goals as goal
 
 pub returns : goal.returns

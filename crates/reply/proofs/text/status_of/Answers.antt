@@ -1,6 +1,5 @@
 -- `reply::status_of` meets its contract: an arm for each register. Assumes nothing.
 use Rattle.reply.specs.Text.{status_of}
-use borrow.Author.Rules.{rules}
 use Rattle.reply.proofs.text.status_of.Goals as goal
 
 pub returns-in-Standard : goal.returns-in-Standard

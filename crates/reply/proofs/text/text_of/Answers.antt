@@ -2,7 +2,6 @@
 use native.Mathlib.Omega.{arith}
 use Rattle.reply.specs.Text.{text_of}
 use Rattle.reply.proofs.Texts.{says_as, says_none}
-use borrow.Author.Rules.{rules}
 use Rattle.reply.proofs.text.text_of.Goals as goal
 
 pub returns-in-Value : goal.returns-in-Value

@@ -2,7 +2,6 @@
 -- nothing.
 use borrow.Author.Tests.{eq-eqb, ne_eqb}
 use Rattle.reply.specs.Text.{value_now}
-use borrow.Author.Rules.{rules}
 use Rattle.reply.proofs.text.value_now.Goals as goal
 
 pub returns-then-entry-eq-FREQ : goal.returns-then-entry-eq-FREQ

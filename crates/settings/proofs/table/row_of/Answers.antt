@@ -3,7 +3,6 @@ use Prim.Native.Nat.{ℕ, zero, suc, ◌≤◌, zero-le}
 use mathlib.Core.Path.{◌≡◌, sym, ◌∙◌}
 use native.Mathlib.Omega.{arith}
 use lib.ListN.{get_or-eq_default}
-use borrow.Author.Rules.{rules}
 use Rattle.settings.specs.Table.{entries, table, row_of, no_row}
 use Rattle.settings.specs.declared.Row.{Row}
 use Rattle.settings.proofs.table.row_of.Goals as goal

@@ -1,5 +1,4 @@
 -- `state::Acquisition::start` meets its contract. Assumes nothing.
-use borrow.Author.Rules.{rules}
 use Rattle.state.proofs.Acquisition.start.Goals as goal
 
 pub returns : goal.returns

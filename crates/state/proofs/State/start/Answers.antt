@@ -1,5 +1,4 @@
 -- `state::State::start` meets its contract. Assumes nothing.
-use borrow.Author.Rules.{rules}
 use Rattle.state.specs.State.{start_state}
 use Rattle.state.proofs.State.start.Goals as goal
 
