@@ -1,9 +1,9 @@
 -- `lockin::byte_run::run_bytes` meets its contract: what is left of the run does what the whole does. Assumes nothing.
-use Prim.Native.Nat.{◌+◌, ◌-◌, ◌<◌}
+use Prim.Native.Nat.{◌<◌}
 use mathlib.Core.Path.{refl, ◌∙◌}
 use native.Mathlib.Omega.{arith}
 use lib.ListN.{length}
-use Rattle.lockin.proofs.WholeRun.{OnRun, over, all_taken, stopped-run, one_more, again}
+use Rattle.lockin.proofs.WholeRun.{over, all_taken, stopped-run, one_more, again}
 use Rattle.lockin.proofs.byte_run.run_bytes.Goals as goal
 
 pub loop-p-init : goal.loop-p-init
@@ -37,12 +37,11 @@ returns-then-at-run c =
     (all_taken c.loop-p.invariant c.pass_quiet-p.result c.pass_quiet-p.ensures.by_index c.if-at-run.true)
 
 pub next_byte-step-requires : goal.next_byte-step-requires
-next_byte-step-requires c =
-    (
-      rw c.pass_quiet-p.ensures.report_value c.loop-p.invariant.fits,
-      c.pass_quiet-p.ensures.taken_le_taken.2,
-      omega (arith, c.pass_quiet-p.ensures.taken_le_taken.1, c.well_formed.1.0.1),
-    )
+next_byte-step-requires c = (
+  rw c.pass_quiet-p.ensures.report_value c.loop-p.invariant.fits,
+  c.pass_quiet-p.ensures.taken_le_taken.2,
+  omega (arith, c.pass_quiet-p.ensures.taken_le_taken.1, c.well_formed.1.0.1),
+)
 
 pub shape_of-one-then-step : goal.shape_of-one-then-step
 shape_of-one-then-step c = c.next_byte-step.auto.one ∙ c.loop-p.invariant.long-one
