@@ -1,1 +1,3 @@
+#![tactic(auto)]
+
 // Demand 2: replies, settings and lines of several commands. No code: specs/ and proofs/.

@@ -5,7 +5,6 @@ use native.Mathlib.Omega.{arith}
 use mathlib.Core.Bool.{Bool, true, false, cond}
 use mathlib.Core.Path.{◌≡◌, refl, sym, ap, ◌∙◌}
 use lib.Dec.{eqb}
-use lib.ListN.{set}
 use lib.Seq.{set-set, set_comm, get_or-set_other}
 use borrow.Author.Tests.{eqb-true, eqb-false}
 use Rattle.settings.specs.Table.{fmod, freq, harm, oflt, srat, send, tstr, start_settings, next_entry, value_of, with_value}

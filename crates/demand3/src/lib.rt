@@ -1,1 +1,3 @@
+#![tactic(auto)]
+
 // No function of its own: demand 3, over whole courses.

@@ -1,1 +1,3 @@
+#![tactic(auto)]
+
 // No function of its own: the examples, as one table, and two scripts.

@@ -1,5 +1,5 @@
 -- Every call keeps what the module and its traces hold of the history. Assumes nothing.
-use Prim.Native.Nat.{ℕ, ◌+◌, ◌-◌, ◌≤◌}
+use Prim.Native.Nat.{ℕ, ◌-◌, ◌≤◌}
 use native.Mathlib.Nat.{zero-mod}
 use native.Mathlib.Omega.{arith}
 use mathlib.Core.Bool.{Bool, true, false, cond, not, and-eq-true_iff}
@@ -10,7 +10,6 @@ use lib.ListN.{length, set}
 use lib.Seq.{get_or-set_other}
 use borrow.Author.Tests.{eqb-true, eqb-false, eq-eqb, le-leb}
 use Rattle.outcome.specs.declared.Refusal.{Refusal}
-use Rattle.outcome.specs.declared.Outcome.TheVariants.{Refused}
 use Rattle.settings.specs.Table.{oflt, send, next_entry, value_of, with_value}
 use Rattle.settings.specs.Frequency.{is_internal}
 use Rattle.storage.specs.Storage as storage

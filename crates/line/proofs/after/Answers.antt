@@ -1,5 +1,4 @@
 -- `line::after` meets its contract. Assumes nothing.
-use borrow.Author.Rules.{rules}
 use Rattle.line.proofs.after.Goals as goal
 
 pub returns : goal.returns

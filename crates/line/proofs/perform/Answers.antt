@@ -1,7 +1,6 @@
 -- `line::perform` meets its contract: by the tests of 3 and 4. Assumes nothing.
 use mathlib.Core.Path.{sym, ◌∙◌}
 use native.Mathlib.Omega.{arith}
-use borrow.Author.Rules.{rules}
 use Rattle.effect.specs.Effect.{state_after}
 use Rattle.line.proofs.Effects.{written-fits, done, no_room_lem, not_allowed_lem}
 use Rattle.line.proofs.perform.Goals as goal

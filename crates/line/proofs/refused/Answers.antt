@@ -1,5 +1,4 @@
 -- `line::refused` meets its contract. Assumes nothing.
-use borrow.Author.Rules.{rules}
 use Rattle.line.proofs.refused.Goals as goal
 
 pub returns : goal.returns

@@ -1,9 +1,9 @@
 -- `line::run` meets its contract: what is left of the line does what the whole does. Assumes nothing.
-use Prim.Native.Nat.{◌+◌, ◌-◌, ◌<◌}
+use Prim.Native.Nat.{◌<◌}
 use mathlib.Core.Path.{refl, ◌∙◌}
 use native.Mathlib.Omega.{arith}
 use lib.ListN.{length}
-use Rattle.line.proofs.LoopStep.{OnWay, stopped, ending, again}
+use Rattle.line.proofs.LoopStep.{stopped, ending, again}
 use Rattle.line.proofs.run.Goals as goal
 
 pub loop-p-init : goal.loop-p-init

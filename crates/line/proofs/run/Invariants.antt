@@ -1,9 +1,7 @@
 -- `line::run` meets its contract: what is left of the line does what the whole does. Assumes nothing.
-use Prim.Native.Nat.{◌+◌, ◌-◌, ◌<◌}
-use mathlib.Core.Path.{refl, ◌∙◌}
-use native.Mathlib.Omega.{arith}
+use Prim.Native.Nat.{◌+◌, ◌-◌}
 use lib.ListN.{length}
-use Rattle.line.proofs.LoopStep.{OnWay, stopped, ending, again}
+use Rattle.line.proofs.LoopStep.{OnWay}
 use Rattle.line.proofs.run.Given as goal
 
 abbrev pub invariant-loop-p : goal.invariant-loop-p

@@ -1,7 +1,6 @@
 -- `line::take_command` meets its contract: by what the text is read as. Assumes nothing.
 use mathlib.Core.Path.{sym}
 use native.Mathlib.Omega.{arith}
-use borrow.Author.Rules.{rules}
 use Rattle.line.specs.Perform.{command_of}
 use Rattle.line.specs.Parts.{command_result}
 use Rattle.reply_buffer.proofs.After.{silent-meets}

@@ -1,5 +1,4 @@
 -- `lockin::end_guarded` meets its contract: by whether it is refused. Assumes nothing.
-use borrow.Author.Rules.{rules}
 use Rattle.reply_buffer.proofs.After.{silent-meets}
 use Rattle.lockin.specs.Calls.{guarded}
 use Rattle.lockin.specs.Parts.{result_of}

@@ -1,5 +1,4 @@
 -- `lockin::end_line` meets its contract: by what ended. Assumes nothing.
-use borrow.Author.Rules.{rules}
 use Rattle.reply_buffer.proofs.After.{silent-meets}
 use Rattle.lockin.specs.Calls.{line_end}
 use Rattle.lockin.specs.Parts.{result_of}

@@ -1,6 +1,5 @@
 -- `lockin::occur_guarded` meets its contract: by whether it is refused. Assumes nothing.
 use mathlib.Core.List.{[]}
-use borrow.Author.Rules.{rules}
 use Rattle.reply_buffer.proofs.After.{silent-meets}
 use Rattle.event.specs.Event.{event_effect}
 use Rattle.lockin.specs.Calls.{guarded}

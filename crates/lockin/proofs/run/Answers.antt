@@ -1,6 +1,5 @@
 -- `lockin::run` meets its contract. Assumes nothing.
 use mathlib.Core.Path.{refl}
-use borrow.Author.Rules.{rules}
 use Rattle.line_text.proofs.Bound.{all_cleaned}
 use Rattle.line.specs.Line.{line_of}
 use Rattle.lockin.proofs.run.Goals as goal

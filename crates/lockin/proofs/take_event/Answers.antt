@@ -1,5 +1,4 @@
 -- `lockin::take_event` meets its contract: its parts are what the call is. Assumes nothing.
-use borrow.Author.Rules.{rules}
 use Rattle.lockin.proofs.Parts.{event-answers}
 use Rattle.lockin.proofs.take_event.Goals as goal
 

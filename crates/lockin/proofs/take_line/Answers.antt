@@ -1,6 +1,5 @@
 -- `lockin::take_line` meets its contract: its parts answer as the call does. Assumes nothing.
 use native.Mathlib.Nat.{sub-zero}
-use borrow.Author.Rules.{rules}
 use Rattle.lockin.proofs.Parts.{line-answers}
 use Rattle.lockin.proofs.take_line.Goals as goal
 

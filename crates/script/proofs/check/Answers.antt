@@ -1,6 +1,5 @@
 -- `script::check` meets its contract: 9 first, then line by line. Assumes nothing.
 use mathlib.Core.Path.{◌≡◌, sym, ap, ◌∙◌}
-use borrow.Author.Rules.{rules}
 use Rattle.verdict.specs.Numbers.{verdict_numbers}
 use Rattle.verdict.specs.declared.Verdict.TheVariants.{No}
 use Rattle.outcome.specs.declared.Refusal.TheVariants.{BadTraces}

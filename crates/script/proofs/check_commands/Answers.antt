@@ -1,10 +1,9 @@
 -- `script::check_commands` meets its contract: what is left of the line answers what the whole does. Assumes nothing.
-use Prim.Native.Nat.{◌+◌, ◌-◌, ◌<◌}
+use Prim.Native.Nat.{◌<◌}
 use mathlib.Core.Path.{refl, sym, ◌∙◌}
 use native.Mathlib.Omega.{arith}
-use borrow.Author.Rules.{rules}
 use lib.ListN.{length}
-use Rattle.script.proofs.LoopStep.{OnWay, refused, ending, again}
+use Rattle.script.proofs.LoopStep.{refused, ending, again}
 use Rattle.script.proofs.check_commands.Goals as goal
 
 pub loop-refusal-init : goal.loop-refusal-init

@@ -1,10 +1,7 @@
 -- `script::check_commands` meets its contract: what is left of the line answers what the whole does. Assumes nothing.
-use Prim.Native.Nat.{◌+◌, ◌-◌, ◌<◌}
-use mathlib.Core.Path.{refl, sym, ◌∙◌}
-use native.Mathlib.Omega.{arith}
-use borrow.Author.Rules.{rules}
+use Prim.Native.Nat.{◌+◌, ◌-◌}
 use lib.ListN.{length}
-use Rattle.script.proofs.LoopStep.{OnWay, refused, ending, again}
+use Rattle.script.proofs.LoopStep.{OnWay}
 use Rattle.script.proofs.check_commands.Given as goal
 
 abbrev pub invariant-loop-refusal : goal.invariant-loop-refusal

@@ -1,9 +1,7 @@
 -- `script::check_lines` meets its contract: what is left of the script says what the whole does. Assumes nothing.
 use Prim.Native.Nat.{◌+◌, ◌-◌}
-use native.Mathlib.Omega.{arith}
-use borrow.Author.Rules.{rules}
 use lib.ListN.{length}
-use Rattle.script.proofs.Script.{Left, at_start, over_yes, over_no, too_long, named, onward, part_length}
+use Rattle.script.proofs.Script.{Left}
 use Rattle.script.proofs.check_lines.Given as goal
 
 abbrev pub invariant-loop-a : goal.invariant-loop-a

@@ -1,7 +1,6 @@
 -- `line::dry::perform` meets its contract: by the tests of 3 and 4. Assumes nothing.
 use mathlib.Core.Path.{sym, ◌∙◌}
 use native.Mathlib.Omega.{arith}
-use borrow.Author.Rules.{rules}
 use Rattle.effect.specs.Effect.{state_after}
 use Rattle.line.proofs.DryPass.{dry_not_allowed, dry_no-room, dry_done}
 use Rattle.line.proofs.dry.perform.Goals as goal

@@ -1,10 +1,10 @@
 -- `line::dry::run` meets its contract: what is left of the line comes to what the whole comes to. Assumes nothing.
-use Prim.Native.Nat.{◌+◌, ◌-◌, ◌<◌}
+use Prim.Native.Nat.{◌<◌}
 use mathlib.Core.Path.{refl}
 use native.Mathlib.Omega.{arith}
 use lib.ListN.{length}
 use Rattle.line.specs.Line.{start_line}
-use Rattle.line.proofs.DryPass.{OnDryWay, dry_stopped, dry_ending, dry_again}
+use Rattle.line.proofs.DryPass.{dry_stopped, dry_ending, dry_again}
 use Rattle.line.proofs.dry.run.Goals as goal
 
 pub loop-p-init : goal.loop-p-init

@@ -1,10 +1,7 @@
 -- `line::dry::run` meets its contract: what is left of the line comes to what the whole comes to. Assumes nothing.
-use Prim.Native.Nat.{◌+◌, ◌-◌, ◌<◌}
-use mathlib.Core.Path.{refl}
-use native.Mathlib.Omega.{arith}
+use Prim.Native.Nat.{◌+◌, ◌-◌}
 use lib.ListN.{length}
-use Rattle.line.specs.Line.{start_line}
-use Rattle.line.proofs.DryPass.{OnDryWay, dry_stopped, dry_ending, dry_again}
+use Rattle.line.proofs.DryPass.{OnDryWay}
 use Rattle.line.proofs.dry.run.Given as goal
 
 abbrev pub invariant-loop-p : goal.invariant-loop-p

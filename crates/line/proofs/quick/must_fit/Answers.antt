@@ -1,10 +1,9 @@
 -- `line::quick::must_fit` meets its contract: what was found, or is in the bytes left, is in the whole line. Assumes
 -- nothing.
-use Prim.Native.Nat.{◌-◌, ◌≤◌}
 use mathlib.Core.Path.{◌≡◌, refl, ◌∙◌}
-use mathlib.Core.Bool.{◌||◌, or-false}
+use mathlib.Core.Bool.{or-false}
 use native.Mathlib.Omega.{arith}
-use lib.ListN.{length, drop}
+use lib.ListN.{length}
 use lib.Seq.{drop-length}
 use Rattle.command.specs.Arguments.{question_mark, comma}
 use Rattle.line.specs.Parts.{has, must_fit}

@@ -1,14 +1,11 @@
 -- `line::quick::must_fit` meets its contract: what was found, or is in the bytes left, is in the whole line. Assumes
 -- nothing.
 use Prim.Native.Nat.{◌-◌, ◌≤◌}
-use mathlib.Core.Path.{◌≡◌, refl, ◌∙◌}
-use mathlib.Core.Bool.{◌||◌, or-false}
-use native.Mathlib.Omega.{arith}
+use mathlib.Core.Path.{◌≡◌}
+use mathlib.Core.Bool.{◌||◌}
 use lib.ListN.{length, drop}
-use lib.Seq.{drop-length}
 use Rattle.command.specs.Arguments.{question_mark, comma}
-use Rattle.line.specs.Parts.{has, must_fit}
-use Rattle.line.proofs.Bytes.{has_more}
+use Rattle.line.specs.Parts.{has}
 use Rattle.line.proofs.quick.must_fit.Given as goal
 
 abbrev pub invariant-loop-i : goal.invariant-loop-i

@@ -1,6 +1,4 @@
 -- `lockin::byte_run::advance` meets its contract. Assumes nothing.
-use borrow.Author.Rules.{rules}
-use native.Mathlib.Omega.{arith}
 use Rattle.lockin.proofs.byte_run.advance.Goals as goal
 
 pub returns : goal.returns

@@ -1,7 +1,5 @@
 -- `lockin::byte_run::count_end` meets its contract: by its test. Assumes nothing.
 use mathlib.Core.Path.{sym, ◌∙◌}
-use borrow.Author.Rules.{rules}
-use native.Mathlib.Omega.{arith}
 use Rattle.lockin.proofs.byte_run.count_end.Goals as goal
 
 pub returns-then-is_end : goal.returns-then-is_end

@@ -1,6 +1,5 @@
 -- `lockin::byte_run::end_behind` meets its contract: the line is lent the room from the bytes already written onward.
 -- Assumes nothing.
-use borrow.Author.Rules.{rules}
 use Rattle.lockin.proofs.NextByte.{ends_behind}
 use Rattle.lockin.proofs.byte_run.end_behind.Goals as goal
 

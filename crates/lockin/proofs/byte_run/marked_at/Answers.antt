@@ -1,5 +1,4 @@
 -- `lockin::byte_run::marked_at` meets its contract. Assumes nothing.
-use native.Mathlib.Omega.{arith}
 use Rattle.lockin.proofs.NextByte.{mark_at}
 use Rattle.lockin.proofs.byte_run.marked_at.Goals as goal
 

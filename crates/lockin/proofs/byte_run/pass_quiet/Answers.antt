@@ -1,6 +1,5 @@
 -- `lockin::byte_run::pass_quiet` meets its contract. Assumes nothing.
 use mathlib.Core.Path.{refl}
-use borrow.Author.Rules.{rules}
 use Rattle.lockin.specs.Parts.{run_at}
 use Rattle.lockin.proofs.byte_run.pass_quiet.Goals as goal
 

@@ -1,9 +1,9 @@
 -- `lockin::byte_run::run_bytes` meets its contract: what is left of the run does what the whole does. Assumes nothing.
-use Prim.Native.Nat.{◌+◌, ◌-◌, ◌<◌}
+use Prim.Native.Nat.{◌<◌}
 use mathlib.Core.Path.{refl, ◌∙◌}
 use native.Mathlib.Omega.{arith}
 use lib.ListN.{length}
-use Rattle.lockin.proofs.WholeRun.{OnRun, over, all_taken, stopped-run, one_more, again}
+use Rattle.lockin.proofs.WholeRun.{over, all_taken, stopped-run, one_more, again}
 use Rattle.lockin.proofs.byte_run.run_bytes.Goals as goal
 
 pub loop-p-init : goal.loop-p-init

@@ -1,9 +1,7 @@
 -- `lockin::byte_run::run_bytes` meets its contract: what is left of the run does what the whole does. Assumes nothing.
-use Prim.Native.Nat.{◌+◌, ◌-◌, ◌<◌}
-use mathlib.Core.Path.{refl, ◌∙◌}
-use native.Mathlib.Omega.{arith}
+use Prim.Native.Nat.{◌+◌, ◌-◌}
 use lib.ListN.{length}
-use Rattle.lockin.proofs.WholeRun.{OnRun, over, all_taken, stopped-run, one_more, again}
+use Rattle.lockin.proofs.WholeRun.{OnRun}
 use Rattle.lockin.proofs.byte_run.run_bytes.Given as goal
 
 abbrev pub invariant-loop-p : goal.invariant-loop-p

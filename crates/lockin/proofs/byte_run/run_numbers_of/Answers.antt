@@ -1,5 +1,4 @@
 -- `lockin::byte_run::run_numbers_of` meets its contract. Assumes nothing.
-use borrow.Author.Rules.{rules}
 use Rattle.lockin.specs.Run.{run_numbers_of}
 use Rattle.lockin.proofs.byte_run.run_numbers_of.Goals as goal
 

@@ -1,7 +1,6 @@
 -- `lockin::byte_run::stops` meets its contract: by whether a line ended before, and by what ends. Assumes nothing.
 use mathlib.Core.Path.{sym}
 use mathlib.Core.Bool.{not-not, and-false}
-use borrow.Author.Rules.{rules}
 use borrow.Author.Tests.{lt-ltb, le-ltb}
 use native.Mathlib.Omega.{arith}
 use lib.Dec.{ltb}

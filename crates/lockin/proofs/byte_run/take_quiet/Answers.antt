@@ -1,13 +1,9 @@
 -- `lockin::byte_run::take_quiet` meets its contract: the rest of the run goes on from each byte as from the first.
 -- Assumes nothing.
-use Prim.Native.Nat.{ℕ, ◌-◌, ◌≤◌}
-use mathlib.Core.Path.{◌≡◌, refl, ◌∙◌}
+use mathlib.Core.Path.{refl, ◌∙◌}
 use native.Mathlib.Omega.{arith}
-use borrow.Author.Rules.{rules}
-use lib.ListN.{length, drop, get_or}
+use lib.ListN.{get_or}
 use Rattle.queue.specs.Queue.{is_end}
-use Rattle.lockin.specs.Run.{Run, run_from}
-use Rattle.lockin.specs.Parts.{with_quiet}
 use Rattle.lockin.proofs.NextByte.{quiet_at, counted}
 use Rattle.lockin.proofs.byte_run.take_quiet.Goals as goal
 

@@ -1,14 +1,10 @@
 -- `lockin::byte_run::take_quiet` meets its contract: the rest of the run goes on from each byte as from the first.
 -- Assumes nothing.
 use Prim.Native.Nat.{ℕ, ◌-◌, ◌≤◌}
-use mathlib.Core.Path.{◌≡◌, refl, ◌∙◌}
-use native.Mathlib.Omega.{arith}
-use borrow.Author.Rules.{rules}
-use lib.ListN.{length, drop, get_or}
-use Rattle.queue.specs.Queue.{is_end}
+use mathlib.Core.Path.{◌≡◌}
+use lib.ListN.{length, drop}
 use Rattle.lockin.specs.Run.{Run, run_from}
 use Rattle.lockin.specs.Parts.{with_quiet}
-use Rattle.lockin.proofs.NextByte.{quiet_at, counted}
 use Rattle.lockin.proofs.byte_run.take_quiet.Given as goal
 
 abbrev pub invariant-loop-taken : goal.invariant-loop-taken

@@ -1,6 +1,5 @@
 -- `lockin::byte_run::take_run` meets its contract: by whether 11 or 9 refuses it. Assumes nothing.
 use mathlib.Core.Path.{sym, ◌∙◌}
-use borrow.Author.Rules.{rules}
 use Rattle.lockin.proofs.WholeRun.{run-answers, run-refused}
 use Rattle.lockin.proofs.byte_run.take_run.Goals as goal
 
