@@ -24,7 +24,7 @@ pub fn run_in_place(
         (run_call (length reply.old) bytes.now mark
         m.old one.old two.old)
         (run_as m.new result) one.new two.new reply.new reply.old }
-    ensures result_value { run_numbers_of result ≡ run_numbers_of
+    ensures numbers { run_numbers_of result ≡ run_numbers_of
         (run_call (length reply.old) bytes.now mark
         m.old one.old two.old).report }
 {
@@ -46,7 +46,7 @@ pub fn take_run(
     ensures meets { Meets run_result
         (run_call (length reply.old) bytes.now mark m one.old two.old)
         result one.new two.new reply.new reply.old }
-    ensures report_value { run_numbers_of result.report ≡ run_numbers_of
+    ensures numbers { run_numbers_of result.report ≡ run_numbers_of
         (run_call (length reply.old) bytes.now mark m
         one.old two.old).report }
 {

@@ -82,7 +82,8 @@ set_setting entry = one λ x. with (setting_of entry x) λ v. taken (Set (set.Va
 -- §3.3 and §5.4: one channel's setting, as FPOP i,j or AUXV i,x: i is the channel
 unfoldable pub set_channel : ℕ → ℕ → List (List ℕ) → Parsed
 set_channel base channels =
-    two λ i x. with (whole_of 1 channels i) λ n. with (setting_of base x) λ v. taken (Set (set.Value (base + (n - 1)) v))
+    two λ i x. with (whole_of 1 channels i) λ n. with (setting_of base x) λ v.
+    taken (Set (set.Value (base + (n - 1)) v))
 
 -- §3.3 and §5.4: a channel's two settings, DDEF i,j,k and OEXP i,x,j: i is the channel
 unfoldable pub set_channel_pair : ℕ → ℕ → List (List ℕ) → Parsed

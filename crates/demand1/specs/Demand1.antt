@@ -1,7 +1,8 @@
 -- Demand 1: what is refused changes nothing, save the error bit laid down for it (§1.1). This holds of each command of
 -- a line, and of lines, bytes, events, starts and polls, so no caller has to test anything beforehand. The statement is
 -- RefusedChangesNothing, at the end. Refusals: §12.1, §12.2, §12.3, §12.4, §12.5, §12.6, §12.9, §12.10 and §12.11.
-use Rattle.std.specs.Prelude.{ℕ, ◌+◌, ◌-◌, ◌≤◌, Bool, true, false, cond, not, ◌≢◌, ◌↔◌, ◌≡◌, List, [], ◌∷◌, ◌++◌, length}
+use Rattle.std.specs.Prelude.{ℕ, ◌+◌, ◌-◌, ◌≤◌, Bool, true, false, cond, not}
+use Rattle.std.specs.Prelude.{◌≢◌, ◌↔◌, ◌≡◌, List, [], ◌∷◌, ◌++◌, length}
 use Rattle.outcome.specs.declared.Refusal.{Refusal}
 use Rattle.outcome.specs.declared.Refusal.TheVariants.{Malformed, OutOfRange, NotAllowed, NoRoom, LongLine}
 use Rattle.outcome.specs.declared.Refusal.TheVariants.{BadEvent, BadTraces, BadStart, BadState}

@@ -1,3 +1,2 @@
-#![tactic(auto)]
-
 // Demand 1: a refused command changes nothing but its error bit. No code: specs/ and proofs/.
+#![tactic(auto)]

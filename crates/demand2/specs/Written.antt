@@ -24,4 +24,5 @@ WrittenAgain = (entry v : ℕ) → value_valid entry v ≡ true → SetsAgain en
 -- §4.7: so no two values have the same text
 abbrev pub WrittenApart : Type 0
 WrittenApart =
-    (entry v w : ℕ) → value_valid entry v ≡ true → value_valid entry w ≡ true → written entry v ≡ written entry w → v ≡ w
+    (entry v w : ℕ) → value_valid entry v ≡ true → value_valid entry w ≡ true →
+    written entry v ≡ written entry w → v ≡ w

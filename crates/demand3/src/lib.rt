@@ -1,3 +1,2 @@
-#![tactic(auto)]
-
 // No function of its own: demand 3, over whole courses.
+#![tactic(auto)]

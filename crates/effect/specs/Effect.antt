@@ -17,8 +17,8 @@ use Rattle.command.specs.declared.QueryArgument.{QueryArgument}
 use Rattle.command.specs.declared.QueryArgument.TheVariants as query
 use Rattle.command.specs.declared.Kind.{Kind}
 use Rattle.command.specs.declared.Kind.TheVariants.{Set, Query, Act}
-use Rattle.state.specs.State.{start_acquisition, with_storage, with_settings, with_acquisition, with_registers, with_enables}
-use Rattle.state.specs.State.{with_storage_of, sampling_of, range_settled, settled}
+use Rattle.state.specs.State.{start_acquisition, with_storage, with_settings, with_acquisition, with_registers}
+use Rattle.state.specs.State.{with_enables, with_storage_of, sampling_of, range_settled, settled}
 use Rattle.state.specs.Storing.{sampled_by}
 use Rattle.state.specs.declared.Acquisition.{Acquisition}
 use Rattle.state.specs.declared.State.{State}

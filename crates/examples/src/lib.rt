@@ -1,3 +1,2 @@
-#![tactic(auto)]
-
 // No function of its own: the examples, as one table, and two scripts.
+#![tactic(auto)]

@@ -30,7 +30,8 @@ pub data Reachable : Module → Type 0 where
   by_run : (room : ℕ) (bytes : List ℕ) (mark : Bool) (m : Module) (one two : List ℕ) → Reachable m →
       Reachable (run_call room bytes mark m one two).after
   -- by an event
-  by_event : (event : Event) (m : Module) (one two : List ℕ) → Reachable m → Reachable (event_call event m one two).after
+  by_event : (event : Event) (m : Module) (one two : List ℕ) → Reachable m →
+      Reachable (event_call event m one two).after
 
 -- §12.11: every start, refused ones too (§1.3), gives a valid module whose queue has all its bytes; where the start is
 -- not refused, 9 does not refuse the traces either; §1.4: every line, byte, run and event leads on from there, so that

@@ -1,3 +1,2 @@
-#![tactic(auto)]
-
 // No function of its own: laws on tests, which the other crates' proofs share.
+#![tactic(auto)]

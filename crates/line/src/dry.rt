@@ -15,8 +15,8 @@ use state::State;
 
 // What a command that is read would leave, where `room` bytes are left for its reply: refused by 3 or 4, or done.
 fn perform(s: State, c: Command, waiting: bool, room: usize) -> CommandResult
-    ensures by_index { (one two : List ℕ) → result ≡ command_result (performed room waiting c.kind s one two) }
-    ensures written_le_room { result.written ≤ room }
+    ensures value { (one two : List ℕ) → result ≡ command_result (performed room waiting c.kind s one two) }
+    ensures written_in_bounds { result.written ≤ room }
 {
     let kind = c.kind;
     let acquisition = s.acquisition;
@@ -39,9 +39,9 @@ fn perform(s: State, c: Command, waiting: bool, room: usize) -> CommandResult
 
 // What a command's text would come to: empty, refused by 1 or 2, or performed.
 fn take_command(s: State, text: &[u8], waiting: bool, room: usize) -> CommandResult
-    ensures by_index { (one two : List ℕ) →
+    ensures value { (one two : List ℕ) →
         result ≡ command_result (command_of room waiting (parsed_of text.now) s one two) }
-    ensures written_le_room { result.written ≤ room }
+    ensures written_in_bounds { result.written ≤ room }
 {
     let parsed = command::parse(text);
     match parsed {
@@ -59,7 +59,7 @@ fn take_command(s: State, text: &[u8], waiting: bool, room: usize) -> CommandRes
 fn step(p: Progress, text: &[u8], room: usize) -> Progress
     requires { (p.at ≤ room) × (p.count < 1000) }
     ensures value { (l : Line) → p ≡ progress_of l → result ≡ progress_of (after_command room text.now l) }
-    ensures at_le_room { (result.at ≤ room) × (result.count ≡ p.count + 1) }
+    ensures at_in_bounds { (result.at ≤ room) × (result.count ≡ p.count + 1) }
 {
     let at = p.at;
     let s = p.state;

@@ -135,7 +135,7 @@ fn step(p: Progress, text: &[u8], one: &mut [u32], two: &mut [u32], reply: &mut 
         (after_command (length reply.old) text.now
         (line_reached p one.old two.old reply.old))
         result one.new two.new reply.new reply.old }
-    ensures at_le_at { (p.at ≤ result.at) × (result.at ≤ length reply.new) × (result.count ≡ p.count + 1) }
+    ensures at_in_bounds { (p.at ≤ result.at) × (result.at ≤ length reply.new) × (result.count ≡ p.count + 1) }
 {
     let at = p.at;
     let s = p.state;

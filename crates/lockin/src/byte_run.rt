@@ -111,10 +111,11 @@ fn count_end(ended: usize, port: u8, b: u8, mark: bool) -> usize
 // Takes the bytes of a run from an index on, up to one that ends a line or makes it too long.
 fn take_quiet(bytes: &mut [u8; LINE], q: QuietBytes, port: u8, run: &[u8], mark: bool) -> QuietBytes
     requires { (q.taken ≤ length run.now) × (q.ended ≤ q.taken) }
-    ensures by_index { (room : ℕ) (p : Run) → p.after.state.installation.port ≡ port →
+    ensures goes_on { (room : ℕ) (p : Run) → p.after.state.installation.port ≡ port →
         run_from room mark (drop q.taken run.now) (with_quiet bytes.old q p)
         ≡ run_from room mark (drop result.taken run.now) (with_quiet bytes.new result p) }
-    ensures taken_le_taken { (q.taken ≤ result.taken) × (result.taken ≤ length run.now) × (result.ended ≤ result.taken) }
+    ensures onward { (q.taken ≤ result.taken) × (result.taken ≤ length run.now)
+        × (result.ended ≤ result.taken) }
 {
     let mut len = q.len;
     let mut discarding = q.discarding;
@@ -150,11 +151,12 @@ fn take_quiet(bytes: &mut [u8; LINE], q: QuietBytes, port: u8, run: &[u8], mark:
 // The run once such bytes are taken.
 fn pass_quiet(p: RunProgress, run: &[u8], mark: bool) -> RunProgress
     requires { (p.taken ≤ length run.now) × (p.ended ≤ p.taken) }
-    ensures by_index { (room : ℕ) (one two out : List ℕ) →
+    ensures goes_on { (room : ℕ) (one two out : List ℕ) →
         run_from room mark (drop p.taken run.now) (run_at p one two out)
         ≡ run_from room mark (drop result.taken run.now) (run_at result one two out) }
-    ensures taken_le_taken { (p.taken ≤ result.taken) × (result.taken ≤ length run.now) × (result.ended ≤ result.taken) }
-    ensures report_value { result.report ≡ p.report }
+    ensures onward { (p.taken ≤ result.taken) × (result.taken ≤ length run.now)
+        × (result.ended ≤ result.taken) }
+    ensures report_stays { result.report ≡ p.report }
 {
     let state = p.after.state;
     let port = p.after.state.installation.port;
@@ -414,7 +416,7 @@ pub fn take_run(
     ensures meets { Meets run_result
         (run_call (length reply.old) bytes.now mark m one.old two.old)
         result one.new two.new reply.new reply.old }
-    ensures report_value { run_numbers_of result.report ≡ run_numbers_of
+    ensures numbers { run_numbers_of result.report ≡ run_numbers_of
         (run_call (length reply.old) bytes.now mark m one.old two.old
         ).report }
 {

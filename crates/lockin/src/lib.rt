@@ -74,7 +74,7 @@ fn refused_start(refusal: Refusal) -> StartResult
 // A fresh module over two traces, which are not written. Port 0 is RS232, 1 is GPIB.
 pub fn start(serial: u32, port: u32, one: &[u32], two: &[u32]) -> StartResult
     ensures value { result ≡ start_call serial port (length one.now) (length two.now) }
-    ensures outcome_value { number_of result.outcome
+    ensures numbers { number_of result.outcome
         ≡ number_of (start_call serial port (length one.now) (length two.now)).outcome }
 {
     if module::installation_known(serial, port) {
@@ -207,7 +207,7 @@ pub fn take_line(
     ensures meets { Meets line_result
         (line_call (length reply.old) text.now m one.old two.old)
         result one.new two.new reply.new reply.old }
-    ensures report_value { numbers_of result.report ≡ numbers_of
+    ensures numbers { numbers_of result.report ≡ numbers_of
         (line_call (length reply.old) text.now m one.old two.old).report }
 {
     let state = m.state;
@@ -271,7 +271,7 @@ pub fn take_byte(
     ensures meets { Meets line_result
         (byte_call (length reply.old) b mark m one.old two.old)
         result one.new two.new reply.new reply.old }
-    ensures report_value { numbers_of result.report ≡ numbers_of
+    ensures numbers { numbers_of result.report ≡ numbers_of
         (byte_call (length reply.old) b mark m one.old two.old).report }
 {
     let state = m.state;
@@ -326,7 +326,7 @@ fn occur_guarded(
 pub fn take_event(m: Module, e: Event, one: &mut [u32], two: &mut [u32]) -> EventResult
     ensures meets { Meets event_result (event_call e m one.old two.old)
         result one.new two.new [] [] }
-    ensures outcome_value { number_of result.outcome ≡ number_of (event_call e m one.old two.old).report }
+    ensures numbers { number_of result.outcome ≡ number_of (event_call e m one.old two.old).report }
 {
     let state = m.state;
     let queue = m.queue;
@@ -354,7 +354,7 @@ pub fn take_event(m: Module, e: Event, one: &mut [u32], two: &mut [u32]) -> Even
 // The status byte between lines, as a serial poll reads it.
 pub fn poll(m: Module) -> PollResult
     ensures value { result ≡ poll_call m }
-    ensures outcome_value { number_of result.outcome ≡ number_of (poll_call m).outcome }
+    ensures numbers { number_of result.outcome ≡ number_of (poll_call m).outcome }
 {
     let state = m.state;
     let bytes = m.queue.bytes;

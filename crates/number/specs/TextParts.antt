@@ -1,6 +1,7 @@
 -- What only inner functions are held to: what the steps of reading a number give, one definition for each function
 -- inside the crate. No promise of a public call speaks of these.
-use Rattle.std.specs.Prelude.{ℕ, zero, suc, ◌+◌, ◌-◌, ◌*◌, ◌^◌, ◌≤◌, Bool, true, cond, ◌&&◌, List, [], ◌∷◌, ◌++◌, leb, eqb, length, get_or}
+use Rattle.std.specs.Prelude.{ℕ, zero, suc, ◌+◌, ◌-◌, ◌*◌, ◌^◌, ◌≤◌, Bool, true, cond, ◌&&◌, leb, eqb}
+use Rattle.std.specs.Prelude.{List, [], ◌∷◌, ◌++◌, length, get_or}
 use Rattle.split.specs.Divide.{before, after}
 use Rattle.number.specs.Number.{point, letter_e, digit_zero, all_digits, digit_limit, is_exponent, has_exponent}
 use Rattle.number.specs.Value.{decimal, Exact, up, down}

@@ -1,5 +1,6 @@
 -- The exact value of a number (§4.2), and what an argument's range makes of it (§4.3, §4.4, §4.5).
-use Rattle.std.specs.Prelude.{ℕ, ◌+◌, ◌-◌, ◌*◌, ◌/◌, ◌%◌, ◌^◌, Bool, cond, not, ◌&&◌, ◌||◌, List, [], ◌∷◌, leb, eqb, length}
+use Rattle.std.specs.Prelude.{ℕ, ◌+◌, ◌-◌, ◌*◌, ◌/◌, ◌%◌, ◌^◌, Bool, cond, not, ◌&&◌, ◌||◌, leb, eqb}
+use Rattle.std.specs.Prelude.{List, [], ◌∷◌, length}
 use Rattle.split.specs.Divide.{before, after}
 use Rattle.number.specs.Number.{minus, point, letter_e, digit_zero, begins, unsigned, digits, has_exponent}
 use Rattle.number.specs.declared.Range.{Range}

@@ -49,4 +49,6 @@ no_point = 0x7FC0_0000
 -- §8.2: the single that TRCB sends for a word: the point's value, +0 for m = 0
 unfoldable pub float_of : ℕ → ℕ
 float_of w =
-    cond (is_legal w) (cond (eqb (magnitude_of w) 0) 0 (single_of (is_negative w) (magnitude_of w) (exponent_byte w))) no_point
+    cond (is_legal w)
+    (cond (eqb (magnitude_of w) 0) 0 (single_of (is_negative w) (magnitude_of w) (exponent_byte w)))
+    no_point

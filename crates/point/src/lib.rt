@@ -51,8 +51,8 @@ fn magnitude(word: u32) -> u32
 
 // The single of value a * 2^(e - 124): the leading zeros of a give its exponent and the shift of its fraction.
 fn single(a: u32, e: u32) -> u32
-    requires a_nonzero { (0 < a) × (a ≤ magnitude_most) }
-    requires e_le_exponent_most { e ≤ exponent_most }
+    requires magnitude_fits { (0 < a) × (a ≤ magnitude_most) }
+    requires exponent_fits { e ≤ exponent_most }
     ensures { result ≡ single_of false a e }
 {
     let zeros = u32::leading_zeros(a);

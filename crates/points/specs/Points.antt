@@ -1,7 +1,8 @@
 -- The points stored, over every call: §7.2, §7.3, §7.4, §7.6, §7.7, §7.9, §8.1, §8.4 and §11.2.
 -- What each call does to the history of stored pairs is said here. The module and its traces hold the last pairs of it
 -- after every call, and SPTS?, TRCL? and TRCB? reply them.
-use Rattle.std.specs.Prelude.{ℕ, ◌+◌, ◌-◌, ◌%◌, ◌≤◌, ◌<◌, min, Bool, cond, ◌≡◌, List, [], ◌∷◌, ◌++◌, leb, eqb, length, get_or, take, drop}
+use Rattle.std.specs.Prelude.{ℕ, ◌+◌, ◌-◌, ◌%◌, ◌≤◌, ◌<◌, min, Bool, cond, ◌≡◌, leb, eqb}
+use Rattle.std.specs.Prelude.{List, [], ◌∷◌, ◌++◌, length, get_or, take, drop}
 use Rattle.split.specs.Ascii.{bytes}
 use Rattle.line_text.specs.Texts.{texts_of}
 use Rattle.format.specs.Text.{plain}
@@ -143,7 +144,8 @@ pair_at history n = get_or history n (record { one = 0; two = 0 })
 -- in slot n mod capacity
 abbrev pub InSlots : (Pair → ℕ) → History → ℕ → List ℕ → Type 0
 InSlots word history capacity trace =
-    (n : ℕ) → n < length history → length history ≤ n + capacity → get_or trace (n % capacity) 0 ≡ word (pair_at history n)
+    (n : ℕ) → n < length history → length history ≤ n + capacity →
+    get_or trace (n % capacity) 0 ≡ word (pair_at history n)
 
 -- §7.9: a state and its traces hold the history: the points held are all of it up to the capacity; §7.3: the next slot
 -- is that of the pair to come, and each trace has its words; §7.4: in one shot no more pairs were stored than there are

@@ -1,5 +1,6 @@
 -- The queue of bytes that wait for their line's end: §2.1, §2.2 and §2.3, and which queue a state may have (§12.11).
-use Rattle.std.specs.Prelude.{ℕ, ◌+◌, Bool, true, false, cond, not, ◌&&◌, ◌||◌, List, [], ◌∷◌, leb, ltb, eqb, take, set, replicate}
+use Rattle.std.specs.Prelude.{ℕ, ◌+◌, Bool, true, false, cond, not, ◌&&◌, ◌||◌, leb, ltb, eqb}
+use Rattle.std.specs.Prelude.{List, [], ◌∷◌, take, set, replicate}
 pub use Rattle.line_text.specs.Clean.{line_limit, cr, lf}
 use Rattle.queue.specs.declared.Queue.{Queue}
 use Rattle.queue.specs.declared.LineEnd.{LineEnd}

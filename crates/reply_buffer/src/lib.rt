@@ -61,7 +61,7 @@ pub fn send(t: Text, out: &mut [u8]) -> Sent
 // The slot of an index that is counted on past the last slot; 0 where there is no slot.
 fn slot_of(slots: usize, place: u64) -> usize
     ensures value { result ≡ slot_of slots place }
-    ensures upper_bound { result ≤ slots }
+    ensures within { result ≤ slots }
 {
     if slots == 0 {
         return 0;

@@ -99,7 +99,7 @@ fn check_lines(model: Model, script: &[u8]) -> Verdict
 // Whether a script can be refused in any course, run by a module of the model.
 pub fn check(model: Model, script: &[u8]) -> Verdict
     ensures value { result ≡ check_of model script.now }
-    ensures result_value { verdict_numbers result ≡ verdict_numbers (check_of model script.now) }
+    ensures numbers { verdict_numbers result ≡ verdict_numbers (check_of model script.now) }
 {
     if extreme_courses::model_fits(model) {
         return check_lines(model, script);

@@ -21,7 +21,7 @@ pub fn span_of(s: &[u8], separator: u8) -> usize
 // Where the part that starts at offset `a` ends: at `a` itself where that is past the last byte.
 pub fn end_of(s: &[u8], separator: u8, a: usize) -> usize
     ensures value { result ≡ a + span separator (drop a s.now) }
-    ensures lower_bound { (a ≤ result) × (result ≤ max a (length s.now)) }
+    ensures within { (a ≤ result) × (result ≤ max a (length s.now)) }
 {
     if s.len() < a {
         return a;

@@ -1,6 +1,7 @@
 -- A byte's bits, which §10.1, §10.2, §10.3 and §10.5 speak of: bit i has the weight 2 ^ i. The union of two bytes' bits
 -- is `bit_or` of lib.Bits, the bits that they have in common `bit_and`. Assumes nothing.
-use Rattle.std.specs.Prelude.{ℕ, ◌-◌, ◌*◌, ◌/◌, ◌%◌, ◌^◌, ◌≤◌, ◌<◌, min, max, Bool, true, false, cond, not, ◌≡◌, eqb, ltb}
+use Rattle.std.specs.Prelude.{ℕ, ◌-◌, ◌*◌, ◌/◌, ◌%◌, ◌^◌, ◌≤◌, ◌<◌, min, max, eqb, ltb}
+use Rattle.std.specs.Prelude.{Bool, true, false, cond, not, ◌≡◌}
 use Rattle.std.specs.Int.Bits.{bit_and, bit_or}
 
 -- bit i of x, 0 or 1

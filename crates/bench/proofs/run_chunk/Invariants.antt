@@ -4,7 +4,9 @@ use Rattle.std.proofs.Common.{◌≡◌, ◌-◌, ◌^◌, ◌≤◌, ◌<◌, l
 use Rattle.bench.proofs.run_chunk.Given as goal
 
 abbrev pub invariant-loop-at : goal.invariant-loop-at
-invariant-loop-at g l = (length l.one ≡ length l.initial.one) × (length l.two ≡ length l.initial.two) × (length l.reply ≡ length l.initial.reply)
+invariant-loop-at g l =
+    (length l.one ≡ length l.initial.one) × (length l.two ≡ length l.initial.two) ×
+    (length l.reply ≡ length l.initial.reply)
     × (l.at ≤ length l.chunk) × (length l.chunk < 2 ^ 64)
 
 abbrev pub decreases-loop-at : goal.decreases-loop-at

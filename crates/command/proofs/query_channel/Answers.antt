@@ -6,7 +6,16 @@ use Rattle.command.proofs.Exact.{query-channel}
 use Rattle.command.proofs.query_channel.Goals as goal
 
 pub returns-in_default : goal.returns-in_default
-returns-in_default c = let a = c.args in sym (query-channel a.base a.channels (omega arith) (arguments a.args.now) ∙ rw (sym c.read_one.ensures ∙ c.in_default.is))
+returns-in_default c =
+    let a = c.args in
+    sym
+    (query-channel a.base a.channels (omega arith) (arguments a.args.now)
+    ∙ rw (sym c.read_one.ensures ∙ c.in_default.is))
 
 pub returns : goal.returns
-returns c = let a = c.args in c.ask_channel.ensures ∙ sym (query-channel a.base a.channels (omega arith) (arguments a.args.now) ∙ rw (sym c.read_one.ensures ∙ c.in-Number.is))
+returns c =
+    let a = c.args in
+    c.ask_channel.ensures
+    ∙ sym
+    (query-channel a.base a.channels (omega arith) (arguments a.args.now)
+    ∙ rw (sym c.read_one.ensures ∙ c.in-Number.is))

@@ -6,7 +6,16 @@ use Rattle.command.proofs.Exact.{set-channel}
 use Rattle.command.proofs.set_channel.Goals as goal
 
 pub returns-in_default : goal.returns-in_default
-returns-in_default c = let a = c.args in sym (set-channel a.base a.channels (omega arith) (arguments a.args.now) ∙ rw ((rw c.row_of-row.ensures at (sym c.read_two.ensures)) ∙ c.in_default.is))
+returns-in_default c =
+    let a = c.args in
+    sym
+    (set-channel a.base a.channels (omega arith) (arguments a.args.now)
+    ∙ rw ((rw c.row_of-row.ensures at (sym c.read_two.ensures)) ∙ c.in_default.is))
 
 pub returns : goal.returns
-returns c = let a = c.args in c.take_channel.ensures ∙ sym (set-channel a.base a.channels (omega arith) (arguments a.args.now) ∙ rw ((rw c.row_of-row.ensures at (sym c.read_two.ensures)) ∙ c.in-Values.is))
+returns c =
+    let a = c.args in
+    c.take_channel.ensures
+    ∙ sym
+    (set-channel a.base a.channels (omega arith) (arguments a.args.now)
+    ∙ rw ((rw c.row_of-row.ensures at (sym c.read_two.ensures)) ∙ c.in-Values.is))

@@ -9,8 +9,15 @@ returns-in_default c = rw (sym c.whole_of.ensures ∙ c.in_default.is)
 
 pub returns-in_default-take_value : goal.returns-in_default-take_value
 unfolding channel_taken
-returns-in_default-take_value c = rw (sym c.whole_of.ensures ∙ c.in-Value.is, sym c.take_value.ensures ∙ c.in_default-take_value.is)
+returns-in_default-take_value c =
+    rw (sym c.whole_of.ensures ∙ c.in-Value.is, sym c.take_value.ensures ∙ c.in_default-take_value.is)
 
 pub returns : goal.returns
 unfolding channel_taken
-returns c = c.taken_as.ensures ∙ rw (sym c.whole_of.ensures ∙ c.in-Value.is, sym c.take_value.ensures ∙ c.in-Value-take_value.is, c.channel_entry.ensures)
+returns c =
+    c.taken_as.ensures
+    ∙ rw (
+      sym c.whole_of.ensures ∙ c.in-Value.is,
+      sym c.take_value.ensures ∙ c.in-Value-take_value.is,
+      c.channel_entry.ensures,
+    )

@@ -9,8 +9,10 @@ returns-in_default c = rw (sym c.whole_of.ensures ∙ c.in_default.is)
 
 pub returns-in_default-whole_of : goal.returns-in_default-whole_of
 unfolding enable_bit_taken
-returns-in_default-whole_of c = rw (sym c.whole_of.ensures ∙ c.in-Value.is, sym c.whole_of-2.ensures ∙ c.in_default-whole_of.is)
+returns-in_default-whole_of c =
+    rw (sym c.whole_of.ensures ∙ c.in-Value.is, sym c.whole_of-2.ensures ∙ c.in_default-whole_of.is)
 
 pub returns : goal.returns
 unfolding enable_bit_taken
-returns c = c.taken_as.ensures ∙ rw (sym c.whole_of.ensures ∙ c.in-Value.is, sym c.whole_of-2.ensures ∙ c.in-Value-whole_of.is)
+returns c =
+    c.taken_as.ensures ∙ rw (sym c.whole_of.ensures ∙ c.in-Value.is, sym c.whole_of-2.ensures ∙ c.in-Value-whole_of.is)

@@ -31,7 +31,14 @@ pub overflow_mul-result : goal.overflow_mul-result
 overflow_mul-result c = omega (arith, c.shared_slice_known-1.given 0, c.shared_slice_known-2-1.given 1)
 
 pub overflow_add-result : goal.overflow_add-result
-overflow_add-result c = omega (arith, c.shared_slice_known-1.given 0, c.shared_slice_known-2-1.given 1, c.shared_slice_known-3-1.given 2, c.shared_slice_known-4-1.given 3)
+overflow_add-result c =
+    omega (
+      arith,
+      c.shared_slice_known-1.given 0,
+      c.shared_slice_known-2-1.given 1,
+      c.shared_slice_known-3-1.given 2,
+      c.shared_slice_known-4-1.given 3,
+    )
 
 pub returns : goal.returns
 returns c = four_word c.args.text.now c.requires

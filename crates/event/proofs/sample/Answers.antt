@@ -7,4 +7,10 @@ use Rattle.event.proofs.sample.Goals as goal
 
 pub returns : goal.returns
 unfolding sampled_in
-returns c = record { result = rw c.sampled.ensures; first = c.store.ensures.0; second = c.store.ensures.1; reply = sym (over_none []) }
+returns c =
+    record {
+      result = rw c.sampled.ensures;
+      first = c.store.ensures.0;
+      second = c.store.ensures.1;
+      reply = sym (over_none []);
+    }

@@ -4,4 +4,10 @@ use Rattle.extreme_courses.proofs.kind_after.Goals as goal
 
 pub returns : goal.returns
 unfolding kind_after
-returns c = rw (c.acquisition_after-2.ensures, c.acquisition_after.ensures, c.begun_after.ensures, c.settings_after-settings.ensures)
+returns c =
+    rw (
+      c.acquisition_after-2.ensures,
+      c.acquisition_after.ensures,
+      c.begun_after.ensures,
+      c.settings_after-settings.ensures,
+    )

@@ -5,11 +5,23 @@ use Rattle.extreme_courses.proofs.kind_refusal.Goals as goal
 
 pub returns-then-is_allowed-2 : goal.returns-then-is_allowed-2
 unfolding kind_refusal
-returns-then-is_allowed-2 c = rw (c.if-begun.true, sym c.is_allowed.ensures ∙ c.if-is_allowed.true, sym c.is_allowed-then-is_allowed.ensures ∙ c.if-is_allowed-2.true)
+returns-then-is_allowed-2 c =
+    rw (
+      c.if-begun.true,
+      sym c.is_allowed.ensures ∙ c.if-is_allowed.true,
+      sym c.is_allowed-then-is_allowed.ensures
+          ∙ c.if-is_allowed-2.true,
+    )
 
 pub returns-then-is_allowed : goal.returns-then-is_allowed
 unfolding kind_refusal
-returns-then-is_allowed c = rw (c.if-begun.true, sym c.is_allowed.ensures ∙ c.if-is_allowed.true, sym c.is_allowed-then-is_allowed.ensures ∙ c.if-is_allowed-2.false)
+returns-then-is_allowed c =
+    rw (
+      c.if-begun.true,
+      sym c.is_allowed.ensures ∙ c.if-is_allowed.true,
+      sym c.is_allowed-then-is_allowed.ensures
+          ∙ c.if-is_allowed-2.false,
+    )
 
 pub returns-then-begun : goal.returns-then-begun
 unfolding kind_refusal

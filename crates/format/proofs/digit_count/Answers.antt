@@ -1,4 +1,5 @@
--- `format::digit_count` meets its contract: what is counted and the places of the rest are together one more than the places of the value. Assumes nothing.
+-- `format::digit_count` meets its contract: what is counted and the places of the rest are together one more than the
+-- places of the value. Assumes nothing.
 use native.Mathlib.Omega.{arith}
 use Rattle.format.proofs.Digits.{places_one, places_more, places_least}
 use Rattle.format.proofs.digit_count.Goals as goal

@@ -1,4 +1,5 @@
--- `format::digit_count` meets its contract: what is counted and the places of the rest are together one more than the places of the value. Assumes nothing.
+-- `format::digit_count` meets its contract: what is counted and the places of the rest are together one more than the
+-- places of the value. Assumes nothing.
 use Prim.Native.Nat.{◌+◌}
 use mathlib.Core.Path.{◌≡◌}
 use Rattle.format.specs.Text.{digit_count}

@@ -1,4 +1,5 @@
--- `format::push_fixed` meets its contract: with no decimals the plain number, else the whole part, the point and the decimals. Assumes nothing.
+-- `format::push_fixed` meets its contract: with no decimals the plain number, else the whole part, the point and the
+-- decimals. Assumes nothing.
 use mathlib.Core.Path.{◌∙◌}
 use Rattle.format.specs.Parts.{bytes_of}
 use Rattle.format.proofs.Value.{fixed_plain, fixed_added}

@@ -1,4 +1,5 @@
--- `format::push_padded` meets its contract: the digits left to write, added to the text so far, make what all of them make. Assumes nothing.
+-- `format::push_padded` meets its contract: the digits left to write, added to the text so far, make what all of them
+-- make. Assumes nothing.
 use mathlib.Core.Path.{◌≡◌, refl, sym, ◌∙◌}
 use native.Mathlib.Omega.{arith}
 use borrow.Author.Rules.{rules}
@@ -15,8 +16,11 @@ loop-left-init c =
 pub loop-left-preserved : goal.loop-left-preserved
 loop-left-preserved c =
     let v = c.loop-left in
-    let e = c.push-text.ensures in
-    (rw e (added_length (bytes_of v.text) _), v.invariant.1 ∙ padded_added (bytes_of v.text) (bytes_of c.push-text.result) v.left c.args.value (omega arith) (e ∙ rw c.digit.ensures))
+    let e = c.push-text.ensures in (
+      rw e (added_length (bytes_of v.text) _),
+      v.invariant.1
+          ∙ padded_added (bytes_of v.text) (bytes_of c.push-text.result) v.left c.args.value (omega arith) (e ∙ rw c.digit.ensures),
+    )
 
 pub returns : goal.returns
 returns c =

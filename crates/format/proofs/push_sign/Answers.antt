@@ -18,4 +18,5 @@ unfolding sign
 returns c =
     let a = c.args in
     let t = a.t in
-    rw (le-ltb a.value a.bias c.if-value-bias.false) (sym (added_none (bytes_of t) (text-length t.bytes t.len (search rules))))
+    rw (le-ltb a.value a.bias c.if-value-bias.false)
+    (sym (added_none (bytes_of t) (text-length t.bytes t.len (search rules))))

@@ -31,8 +31,9 @@ shape_of-reply-then-dropped c = c.step-next.auto.reply ∙ c.loop-p.invariant.lo
 pub returns-then-dropped : goal.returns-then-dropped
 returns-then-dropped c =
     stopped c.loop-p.invariant c.end_of-e.result c.end_of-e.ensures.value c.step-next.result
-    c.step-next.new.one c.step-next.new.two c.step-next.new.reply c.step-next.ensures.meets c.step-next.ensures.at_le_at.0
-    c.step-next.ensures.at_le_at.1 c.if-dropped.true
+    c.step-next.new.one c.step-next.new.two c.step-next.new.reply c.step-next.ensures.meets
+    c.step-next.ensures.at_in_bounds.0
+    c.step-next.ensures.at_in_bounds.1 c.if-dropped.true
 
 pub shape_of-one-then-e-text : goal.shape_of-one-then-e-text
 shape_of-one-then-e-text c = c.step-next.auto.one ∙ c.loop-p.invariant.long-one
@@ -46,14 +47,16 @@ shape_of-reply-then-e-text c = c.step-next.auto.reply ∙ c.loop-p.invariant.lon
 pub returns-then-e-text : goal.returns-then-e-text
 returns-then-e-text c =
     ending c.loop-p.invariant c.end_of-e.result c.end_of-e.ensures.value c.step-next.result
-    c.step-next.new.one c.step-next.new.two c.step-next.new.reply c.step-next.ensures.meets c.step-next.ensures.at_le_at.0
-    c.step-next.ensures.at_le_at.1 c.if-dropped.false c.if-e-text.true
+    c.step-next.new.one c.step-next.new.two c.step-next.new.reply c.step-next.ensures.meets
+    c.step-next.ensures.at_in_bounds.0
+    c.step-next.ensures.at_in_bounds.1 c.if-dropped.false c.if-e-text.true
 
 pub loop-p-preserved : goal.loop-p-preserved
 loop-p-preserved c =
     let args = c.args in
     let l : c.end_of-e.result < length args.text.now = omega arith in
     again c.loop-p.invariant c.end_of-e.result c.end_of-e.ensures.value c.step-next.result
-    c.step-next.new.one c.step-next.new.two c.step-next.new.reply c.step-next.ensures.meets c.step-next.ensures.at_le_at.0
-    c.step-next.ensures.at_le_at.1 c.if-dropped.false l c.step-next.auto.reply c.step-next.auto.one
-    c.step-next.auto.two c.step-next.ensures.at_le_at.2
+    c.step-next.new.one c.step-next.new.two c.step-next.new.reply c.step-next.ensures.meets
+    c.step-next.ensures.at_in_bounds.0
+    c.step-next.ensures.at_in_bounds.1 c.if-dropped.false l c.step-next.auto.reply c.step-next.auto.one
+    c.step-next.auto.two c.step-next.ensures.at_in_bounds.2

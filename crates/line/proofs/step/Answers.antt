@@ -21,9 +21,11 @@ returns c =
       meets = step-holds a.p c.after.result a.text.now a.one.now a.two.now _ _ a.reply.now new
           c.take_command-d.result
           c.requires.0 c.take_command-d.ensures.meets c.after.ensures;
-      at_le_at = (
+      at_in_bounds = (
         omega arith,
-        rw g (mended_fits a.reply.now a.p.at c.requires.0 new c.take_command-d.result.written c.take_command-d.ensures.written_in_bounds),
+        rw g
+            (mended_fits a.reply.now a.p.at c.requires.0 new c.take_command-d.result.written
+            c.take_command-d.ensures.written_in_bounds),
         ap (λ r. r.count) c.after.ensures,
       );
     }

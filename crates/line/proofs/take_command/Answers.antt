@@ -20,4 +20,6 @@ returns-in-Refused c =
 
 pub returns-in-Taken : goal.returns-in-Taken
 unfolding command_of
-returns-in-Taken c = rw (sym c.parse-parsed.ensures, c.in-Taken.is) (record { meets = c.perform.ensures.meets; written_in_bounds = c.perform.ensures.written_in_bounds })
+returns-in-Taken c =
+    rw (sym c.parse-parsed.ensures, c.in-Taken.is)
+    (record { meets = c.perform.ensures.meets; written_in_bounds = c.perform.ensures.written_in_bounds })

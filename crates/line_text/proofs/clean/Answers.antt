@@ -14,8 +14,11 @@ is_dropped-skip-requires c = tt
 pub loop-i-preserved-then-skip : goal.loop-i-preserved-then-skip
 loop-i-preserved-then-skip c =
     let v = c.loop-i in
-    let line = c.args.line.now in
-    (v.invariant.0, v.invariant.1, rw (cleaned-drop line v.i c.loop-i-test.true (sym c.is_dropped-skip.ensures ∙ c.if-skip.true)) at v.invariant.2)
+    let line = c.args.line.now in (
+      v.invariant.0,
+      v.invariant.1,
+      rw (cleaned-drop line v.i c.loop-i-test.true (sym c.is_dropped-skip.ensures ∙ c.if-skip.true)) at v.invariant.2,
+    )
 
 pub capital_of-requires : goal.capital_of-requires
 capital_of-requires c = tt
@@ -28,7 +31,8 @@ loop-i-preserved-then-len-lt-LINE c =
       length-set v.bytes v.len _ ∙ v.invariant.1,
       rw c.capital_of.ensures
           (kept_more v.bytes v.len _ _ v.invariant.1 c.if-len-lt-LINE.true
-          ∙ rw (cleaned_keep line v.i c.loop-i-test.true (sym c.is_dropped-skip.ensures ∙ c.if-skip.false)) at v.invariant.2),
+          ∙ rw (cleaned_keep line v.i c.loop-i-test.true (sym c.is_dropped-skip.ensures ∙ c.if-skip.false)) at
+          v.invariant.2),
     )
 
 pub loop-i-preserved : goal.loop-i-preserved
@@ -38,11 +42,15 @@ loop-i-preserved c =
       v.invariant.0,
       v.invariant.1,
       kept_full v.bytes v.len _ _ v.invariant.1 v.invariant.0 c.if-len-lt-LINE.false
-          ∙ rw (cleaned_keep line v.i c.loop-i-test.true (sym c.is_dropped-skip.ensures ∙ c.if-skip.false)) at v.invariant.2,
+          ∙ rw (cleaned_keep line v.i c.loop-i-test.true (sym c.is_dropped-skip.ensures ∙ c.if-skip.false)) at
+          v.invariant.2,
     )
 
 pub returns : goal.returns
 returns c =
     let v = c.loop-i in
-    let line = c.args.line.now in
-    (sym (kept_all v.bytes v.len v.invariant.1 v.invariant.0) ∙ (rw (cleaned-end line v.i c.loop-i-test.false) at v.invariant.2), v.invariant.0)
+    let line = c.args.line.now in (
+      sym (kept_all v.bytes v.len v.invariant.1 v.invariant.0)
+          ∙ (rw (cleaned-end line v.i c.loop-i-test.false) at v.invariant.2),
+      v.invariant.0,
+    )

@@ -7,7 +7,9 @@ use Rattle.line_text.specs.Clean.{cleaned}
 use Rattle.line_text.proofs.clean.Given as goal
 
 abbrev pub invariant-loop-i : goal.invariant-loop-i
-invariant-loop-i l = (l.len ≤ 256) × (length l.bytes ≡ 256) × (take 256 (take l.len l.bytes ++ cleaned (drop l.i l.line)) ≡ take 256 (cleaned l.line))
+invariant-loop-i l =
+    (l.len ≤ 256) × (length l.bytes ≡ 256) ×
+    (take 256 (take l.len l.bytes ++ cleaned (drop l.i l.line)) ≡ take 256 (cleaned l.line))
 
 abbrev pub decreases-loop-i : goal.decreases-loop-i
 decreases-loop-i l = length l.line - l.i

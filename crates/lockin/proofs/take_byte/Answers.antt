@@ -18,7 +18,9 @@ slice_bounds-end_guarded-end c =
     let m = c.args.m in
     let stored : length c.store.new.bytes ≡ line_limit =
     rw c.store.ensures
-    (stored-length c.step_guarded-step.result.stores m.queue.len _ m.queue.bytes ∙ long (goal.at.slice_bounds-end_guarded-end c).Start) in
+    (stored-length c.step_guarded-step.result.stores m.queue.len _ m.queue.bytes
+    ∙ long (goal.at.slice_bounds-end_guarded-end c).Start)
+    in
     omega (arith, c.end_index-end.ensures)
 
 pub returns : goal.returns
@@ -26,4 +28,4 @@ returns c =
     let args = c.args in
     let each = byte-answers _ args.b args.mark args.m _ _ c.step_guarded-step.result (long (goal.at.returns c).Start)
     c.guard-outcome.ensures c.step_guarded-step.ensures c.store.ensures c.end_index-end.ensures
-    (rw (sub-zero c.end_index-end.result) at c.end_guarded-r.ensures) in record { meets = each.0; report_value = each.1 }
+    (rw (sub-zero c.end_index-end.result) at c.end_guarded-r.ensures) in record { meets = each.0; numbers = each.1 }

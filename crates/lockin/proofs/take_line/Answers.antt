@@ -8,4 +8,4 @@ returns c =
     let args = c.args in
     let each = line-answers _ _ args.m _ _ c.guard-outcome.ensures c.whole_end-ending.ensures
     c.end_index-end.ensures
-    (rw (sub-zero c.end_index-end.result) at c.end_guarded-r.ensures) in record { meets = each.0; report_value = each.1 }
+    (rw (sub-zero c.end_index-end.result) at c.end_guarded-r.ensures) in record { meets = each.0; numbers = each.1 }

@@ -1,5 +1,5 @@
--- `mnemonic::find` meets its contract: each arm gives what the list says of its number, and the last one what it says of a
--- number that is none of these. Assumes nothing.
+-- `mnemonic::find` meets its contract: each arm gives what the list says of its number, and the last one what it says
+-- of a number that is none of these. Assumes nothing.
 use Prim.Native.Nat.{ℕ}
 use mathlib.Core.Path.{◌≡◌, refl, sym}
 use mathlib.Core.List.{List, [], ◌∷◌}

@@ -23,11 +23,13 @@ overflow_mul-result c = omega (arith, up_le c.args.q.whole c.args.step)
 
 pub returns-then-s-whole : goal.returns-then-s-whole
 unfolding rounded_to
-returns-then-s-whole c = (rw (← c.one_if-half.ensures.0, le-leb _ _ c.if-s-whole.true), up_le c.args.q.whole c.args.step)
+returns-then-s-whole c =
+    (rw (← c.one_if-half.ensures.0, le-leb _ _ c.if-s-whole.true), up_le c.args.q.whole c.args.step)
 
 pub overflow_mul-result-2 : goal.overflow_mul-result-2
 overflow_mul-result-2 c = omega (arith, down_le c.args.q.whole c.args.step)
 
 pub returns : goal.returns
 unfolding rounded_to
-returns c = (rw (← c.one_if-half.ensures.0, lt-leb _ _ c.if-s-whole.false, add-zero), down_le c.args.q.whole c.args.step)
+returns c =
+    (rw (← c.one_if-half.ensures.0, lt-leb _ _ c.if-s-whole.false, add-zero), down_le c.args.q.whole c.args.step)

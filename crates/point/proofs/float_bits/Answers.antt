@@ -30,25 +30,32 @@ module _ (c : After-exponent) where
   sent s n = some_magnitude word fine c.magnitude-a.ensures c.if-a-eq0.false c.exponent.ensures n
 
 pub returns-then-a-eq0 : goal.returns-then-a-eq0
-returns-then-a-eq0 c = sym (no_magnitude c.args.word (sym c.legal.ensures ∙ c.if-legal.true) (sym c.magnitude-a.ensures ∙ c.if-a-eq0.true))
+returns-then-a-eq0 c =
+    sym (no_magnitude c.args.word (sym c.legal.ensures ∙ c.if-legal.true) (sym c.magnitude-a.ensures ∙ c.if-a-eq0.true))
 
 pub single-bits-requires : goal.single-bits-requires
-single-bits-requires c = let each = bounds (goal.at.single-bits-requires c).After-exponent in record { a_nonzero = each.0; e_le_exponent_most = each.1 }
+single-bits-requires c =
+    let each = bounds (goal.at.single-bits-requires c).After-exponent in
+    record { magnitude_fits = each.0; exponent_fits = each.1 }
 
 pub overflow_add-result : goal.overflow_add-result
 overflow_add-result c =
-    let b = bounds (goal.at.overflow_add-result c).After-exponent in
-    omega (arith, single_lt (a (goal.at.overflow_add-result c).After-exponent) (e (goal.at.overflow_add-result c).After-exponent) b.0.0 b.0.1 b.1)
+    let at = (goal.at.overflow_add-result c).After-exponent in
+    let b = bounds at in
+    omega (arith, single_lt (a at) (e at) b.0.0 b.0.1 b.1)
 
 pub returns-then-negative : goal.returns-then-negative
 returns-then-negative c =
+    let at = (goal.at.returns-then-negative c).After-exponent in
     sym
-    (sent (goal.at.returns-then-negative c).After-exponent true (sym c.if-negative.true ∙ c.negative.ensures)
-    ∙ with-sign (a (goal.at.returns-then-negative c).After-exponent) (e (goal.at.returns-then-negative c).After-exponent)
+    (sent at true (sym c.if-negative.true ∙ c.negative.ensures)
+    ∙ with-sign (a at) (e at)
     ∙ ap (λ (n : ℕ). 2147483648 + n) (sym c.single-bits.ensures))
 
 pub returns-then-legal : goal.returns-then-legal
-returns-then-legal c = c.single-bits.ensures ∙ sym (sent (goal.at.returns-then-legal c).After-exponent false (sym c.if-negative.false ∙ c.negative.ensures))
+returns-then-legal c =
+    let at = (goal.at.returns-then-legal c).After-exponent in
+    c.single-bits.ensures ∙ sym (sent at false (sym c.if-negative.false ∙ c.negative.ensures))
 
 pub returns : goal.returns
 returns c = sym (no-point c.args.word (sym c.legal.ensures ∙ c.if-legal.false))

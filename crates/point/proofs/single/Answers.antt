@@ -1,4 +1,5 @@
--- `point::single` meets its contract: the highest digit of a, moved to place 23, is the one that the fraction hides. Assumes nothing.
+-- `point::single` meets its contract: the highest digit of a, moved to place 23, is the one that the fraction hides.
+-- Assumes nothing.
 use native.Mathlib.Omega.{arith}
 use Rattle.point.specs.Single.{pattern}
 use Rattle.point.specs.Point.{single_of}
@@ -7,7 +8,7 @@ use Rattle.point.proofs.single.Goals.{Start}
 use Rattle.point.proofs.single.Goals as goal
 
 known : (c : Start) → Placed c.args.a
-known c = placed c.args.a c.requires.a_nonzero.0 c.requires.a_nonzero.1
+known c = placed c.args.a c.requires.magnitude_fits.0 c.requires.magnitude_fits.1
 
 pub overflow_sub-field : goal.overflow_sub-field
 overflow_sub-field c = omega (arith, known (goal.at.overflow_sub-field c).Start)

@@ -15,11 +15,17 @@ returns-then-is_internal c =
 
 pub returns-then-entry-eq-FREQ : goal.returns-then-entry-eq-FREQ
 unfolding value_allowed
-returns-then-entry-eq-FREQ c = simp (sym c.is_internal.ensures ∙ c.if-is_internal.false, eq-eqb _ _ c.if-entry-eq-FREQ.true)
+returns-then-entry-eq-FREQ c =
+    simp (sym c.is_internal.ensures ∙ c.if-is_internal.false, eq-eqb _ _ c.if-entry-eq-FREQ.true)
 
 pub returns-then-entry-eq-HARM : goal.returns-then-entry-eq-HARM
 unfolding value_allowed
-returns-then-entry-eq-HARM c = rw (c.stays_within_limit-then-entry-eq-HARM.ensures, eq-eqb _ _ c.if-entry-eq-HARM.true, ne_eqb _ _ c.if-entry-eq-FREQ.false)
+returns-then-entry-eq-HARM c =
+    rw (
+      c.stays_within_limit-then-entry-eq-HARM.ensures,
+      eq-eqb _ _ c.if-entry-eq-HARM.true,
+      ne_eqb _ _ c.if-entry-eq-FREQ.false,
+    )
 
 pub returns-then-entry-eq-FMOD : goal.returns-then-entry-eq-FMOD
 unfolding value_allowed

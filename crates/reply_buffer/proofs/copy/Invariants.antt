@@ -7,7 +7,8 @@ use lib.ListN.{length, take, drop}
 use Rattle.reply_buffer.proofs.copy.Given as goal
 
 abbrev pub invariant-loop-i : goal.invariant-loop-i
-invariant-loop-i l = (l.i ≤ l.n) × (l.out ≡ take l.i l.bytes ++ drop l.i l.initial.out) × (length l.out ≡ length l.initial.out)
+invariant-loop-i l =
+    (l.i ≤ l.n) × (l.out ≡ take l.i l.bytes ++ drop l.i l.initial.out) × (length l.out ≡ length l.initial.out)
 
 abbrev pub decreases-loop-i : goal.decreases-loop-i
 decreases-loop-i l = l.n - l.i

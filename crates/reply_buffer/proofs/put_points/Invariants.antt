@@ -9,7 +9,9 @@ use Rattle.reply_buffer.proofs.put_points.Given as goal
 
 abbrev pub invariant-loop-i : goal.invariant-loop-i
 invariant-loop-i l = (l.i ≤ l.count)
-    × (take (4 * l.i) l.out ++ overwrite (point_bytes l.form l.trace (l.first + l.i) (l.count - l.i)) (drop (4 * l.i) l.out)
+    ×
+    (take (4 * l.i) l.out ++ overwrite (point_bytes l.form l.trace (l.first + l.i) (l.count - l.i))
+    (drop (4 * l.i) l.out)
     ≡ overwrite (point_bytes l.form l.trace l.first l.count) l.initial.out)
     × (length l.out ≡ length l.initial.out)
 

@@ -11,11 +11,11 @@ unfolding check_of
 returns-then-model_fits c =
     let e : c.check_lines.result ≡ check_of c.args.model c.args.script.now =
     rw (sym c.model_fits.ensures ∙ c.if-model_fits.true) c.check_lines.ensures in
-    record { value = e; result_value = ap verdict_numbers e }
+    record { value = e; numbers = ap verdict_numbers e }
 
 pub returns : goal.returns
 unfolding check_of
 returns c =
     let e : No 0 0 BadTraces ≡ check_of c.args.model c.args.script.now =
     rw (sym c.model_fits.ensures ∙ c.if-model_fits.false) in
-    record { value = e; result_value = ap verdict_numbers e }
+    record { value = e; numbers = ap verdict_numbers e }

@@ -13,16 +13,38 @@ returns-then-whole-lt1000000 c = simp (le-ltb _ _ c.if-whole-lt100000.false, lt-
 
 pub returns-then-whole-lt10000000 : goal.returns-then-whole-lt10000000
 unfolding step_by
-returns-then-whole-lt10000000 c = simp (le-ltb _ _ c.if-whole-lt100000.false, le-ltb _ _ c.if-whole-lt1000000.false, lt-ltb _ _ c.if-whole-lt10000000.true)
+returns-then-whole-lt10000000 c =
+    simp
+    (le-ltb _ _ c.if-whole-lt100000.false, le-ltb _ _ c.if-whole-lt1000000.false, lt-ltb _ _ c.if-whole-lt10000000.true)
 
 pub returns-then-whole-lt100000000 : goal.returns-then-whole-lt100000000
 unfolding step_by
-returns-then-whole-lt100000000 c = simp (le-ltb _ _ c.if-whole-lt100000.false, le-ltb _ _ c.if-whole-lt1000000.false, le-ltb _ _ c.if-whole-lt10000000.false, lt-ltb _ _ c.if-whole-lt100000000.true)
+returns-then-whole-lt100000000 c =
+    simp (
+      le-ltb _ _ c.if-whole-lt100000.false,
+      le-ltb _ _ c.if-whole-lt1000000.false,
+      le-ltb _ _ c.if-whole-lt10000000.false,
+      lt-ltb _ _ c.if-whole-lt100000000.true,
+    )
 
 pub returns-then-whole-lt1000000000 : goal.returns-then-whole-lt1000000000
 unfolding step_by
-returns-then-whole-lt1000000000 c = simp (le-ltb _ _ c.if-whole-lt100000.false, le-ltb _ _ c.if-whole-lt1000000.false, le-ltb _ _ c.if-whole-lt10000000.false, le-ltb _ _ c.if-whole-lt100000000.false, lt-ltb _ _ c.if-whole-lt1000000000.true)
+returns-then-whole-lt1000000000 c =
+    simp (
+      le-ltb _ _ c.if-whole-lt100000.false,
+      le-ltb _ _ c.if-whole-lt1000000.false,
+      le-ltb _ _ c.if-whole-lt10000000.false,
+      le-ltb _ _ c.if-whole-lt100000000.false,
+      lt-ltb _ _ c.if-whole-lt1000000000.true,
+    )
 
 pub returns : goal.returns
 unfolding step_by
-returns c = simp (le-ltb _ _ c.if-whole-lt100000.false, le-ltb _ _ c.if-whole-lt1000000.false, le-ltb _ _ c.if-whole-lt10000000.false, le-ltb _ _ c.if-whole-lt100000000.false, le-ltb _ _ c.if-whole-lt1000000000.false)
+returns c =
+    simp (
+      le-ltb _ _ c.if-whole-lt100000.false,
+      le-ltb _ _ c.if-whole-lt1000000.false,
+      le-ltb _ _ c.if-whole-lt10000000.false,
+      le-ltb _ _ c.if-whole-lt100000000.false,
+      le-ltb _ _ c.if-whole-lt1000000000.false,
+    )

@@ -42,4 +42,5 @@ pub returns-in-10000 : goal.returns-in-10000
 returns-in-10000 c = at _ 10000 c.frequency_step.ensures c.in-10000.is refl
 
 pub returns-in_default : goal.returns-in_default
-returns-in_default c = let is = c.frequency_step.ensures in at _ 100000 is (last_at _ is c.in_default.in_default-own.rest) refl
+returns-in_default c =
+    let is = c.frequency_step.ensures in at _ 100000 is (last_at _ is c.in_default.in_default-own.rest) refl

@@ -16,7 +16,8 @@ returns-then-s-a c =
 pub returns : goal.returns
 returns c =
     let k = c.args in
-    let e : c.span_of.result ≡ span k.separator (drop k.a k.s.now) = rw (rest_from k.s.now k.a) at c.span_of.ensures.0 in
+    let e : c.span_of.result ≡ span k.separator (drop k.a k.s.now) = rw (rest_from k.s.now k.a) at
+    c.span_of.ensures.0 in
     let l : c.span_of.result ≤ length (drop k.a k.s.now) = rw (rest_from k.s.now k.a) at c.span_of.ensures.1 in
     let n = length-drop k.a k.s.now in
-    record { value = rw e; lower_bound = (omega arith, omega arith) }
+    record { value = rw e; within = (omega arith, omega arith) }

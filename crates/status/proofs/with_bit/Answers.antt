@@ -10,7 +10,8 @@ returns-then-value-eq0 c = rw (lt-ltb _ _ c.if-bit-lt8.true, eq-eqb _ _ c.if-val
 
 pub returns-then-bit-lt8 : goal.returns-then-bit-lt8
 unfolding with_bit
-returns-then-bit-lt8 c = rw (lt-ltb _ _ c.if-bit-lt8.true, ne_eqb _ _ c.if-value-eq0.false, weight-fits c.args.bit c.if-bit-lt8.true)
+returns-then-bit-lt8 c =
+    rw (lt-ltb _ _ c.if-bit-lt8.true, ne_eqb _ _ c.if-value-eq0.false, weight-fits c.args.bit c.if-bit-lt8.true)
 
 pub returns : goal.returns
 unfolding with_bit

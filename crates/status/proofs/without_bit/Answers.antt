@@ -1,4 +1,5 @@
--- `status::without_bit` meets its contract: the weight of a set bit is part of the byte, and past 7 none is set. Assumes nothing.
+-- `status::without_bit` meets its contract: the weight of a set bit is part of the byte, and past 7 none is set.
+-- Assumes nothing.
 use native.Mathlib.Omega.{arith}
 use borrow.Author.Rules.{rules}
 use Rattle.status.specs.Bits.{without_bit}

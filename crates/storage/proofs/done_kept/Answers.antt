@@ -5,7 +5,8 @@ use Rattle.storage.proofs.done_kept.Goals as goal
 
 pub returns-then-full_in_one_shot : goal.returns-then-full_in_one_shot
 unfolding done_kept
-returns-then-full_in_one_shot c = rw (c.is_done-done.ensures, sym c.full_in_one_shot.ensures ∙ c.if-full_in_one_shot.true)
+returns-then-full_in_one_shot c =
+    rw (c.is_done-done.ensures, sym c.full_in_one_shot.ensures ∙ c.if-full_in_one_shot.true)
 
 pub returns : goal.returns
 unfolding done_kept

@@ -6,11 +6,14 @@ use Rattle.storage.proofs.ticked.Goals as goal
 
 pub returns-then-by-ne-EXTERNAL_RATE : goal.returns-then-by-ne-EXTERNAL_RATE
 unfolding tick_stores ticked_of
-returns-then-by-ne-EXTERNAL_RATE c = rw (sym c.is_running.ensures ∙ c.if-is_running.true, ne_eqb _ _ c.if-by-ne-EXTERNAL_RATE.true, c.stored-after.ensures)
+returns-then-by-ne-EXTERNAL_RATE c =
+    rw
+    (sym c.is_running.ensures ∙ c.if-is_running.true, ne_eqb _ _ c.if-by-ne-EXTERNAL_RATE.true, c.stored-after.ensures)
 
 pub returns-else-by-ne-EXTERNAL_RATE : goal.returns-else-by-ne-EXTERNAL_RATE
 unfolding tick_stores ticked_of
-returns-else-by-ne-EXTERNAL_RATE c = rw (sym c.is_running.ensures ∙ c.if-is_running.true, eq-eqb _ _ c.if-by-ne-EXTERNAL_RATE.false)
+returns-else-by-ne-EXTERNAL_RATE c =
+    rw (sym c.is_running.ensures ∙ c.if-is_running.true, eq-eqb _ _ c.if-by-ne-EXTERNAL_RATE.false)
 
 pub returns-else-is_running : goal.returns-else-is_running
 unfolding tick_stores ticked_of

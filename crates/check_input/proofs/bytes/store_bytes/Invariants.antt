@@ -8,7 +8,9 @@ use Rattle.check_input.proofs.bytes.store_bytes.Given as goal
 
 abbrev pub invariant-loop-i : goal.invariant-loop-i
 invariant-loop-i l = (length l.script ≡ length l.initial.script) × (l.i ≤ length l.bytes)
-    × (after_bytes (drop l.i l.bytes) (memory l.latest l.script) ≡ after_bytes l.bytes (memory l.initial.latest l.initial.script))
+    ×
+    (after_bytes (drop l.i l.bytes) (memory l.latest l.script) ≡ after_bytes l.bytes
+    (memory l.initial.latest l.initial.script))
 
 abbrev pub decreases-loop-i : goal.decreases-loop-i
 decreases-loop-i l = length l.bytes - l.i

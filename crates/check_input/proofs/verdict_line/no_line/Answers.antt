@@ -15,6 +15,7 @@ unfolding said_text
 returns c =
     let a = c.args in
     c.append.ensures.0
-    ∙ rw (c.append_number-with_refusal.ensures.0, c.append_number-with_place.ensures.0, c.append_number-with_line.ensures.0)
+    ∙ rw
+    (c.append_number-with_refusal.ensures.0, c.append_number-with_place.ensures.0, c.append_number-with_line.ensures.0)
     (rw (c.line_of_bytes-no.ensures.0, c.code_of-meaning.ensures)
     (regroup (bytes "no") (spaced a.line) (spaced a.place) (spaced (code_of a.refusal).number) end_of_line))

@@ -33,4 +33,4 @@ loop-p-preserved c =
     let args = c.args in
     let l : c.end_of-e.result < length args.text.now = omega arith in
     dry_again c.loop-p.invariant c.end_of-e.result c.end_of-e.ensures.value c.step-next.result
-    c.step-next.ensures.value c.if-dropped.false l c.step-next.ensures.at_le_room.0 c.step-next.ensures.at_le_room.1
+    c.step-next.ensures.value c.if-dropped.false l c.step-next.ensures.at_in_bounds.0 c.step-next.ensures.at_in_bounds.1

@@ -8,4 +8,10 @@ use Rattle.line.proofs.dry.step.Goals as goal
 pub returns : goal.returns
 returns c =
     let a = c.args in
-    let g : c.after.result.at ≡ a.p.at + c.take_command-d.result.written = ap (λ r. r.at) c.after.ensures in record { value = dry_step a.room a.text.now a.p c.after.result c.take_command-d.result c.take_command-d.ensures.by_index c.after.ensures; at_le_room = (omega arith, ap (λ r. r.count) c.after.ensures) }
+    let g : c.after.result.at ≡ a.p.at + c.take_command-d.result.written = ap (λ r. r.at) c.after.ensures in
+    record {
+      value =
+          dry_step a.room a.text.now a.p c.after.result c.take_command-d.result c.take_command-d.ensures.value
+          c.after.ensures;
+      at_in_bounds = (omega arith, ap (λ r. r.count) c.after.ensures);
+    }

@@ -39,7 +39,8 @@ returns-then-stops c =
     let a = c.args in
     let test = next-stops a.b a.mark a.p a.one.now a.two.now a.reply.now c.step_of-step.result
     (long (goal.at.returns-then-stops c).Start) c.step_of-step.ensures c.store.ensures c.end_index-end.ensures
-    (rw (sub-zero c.end_index-end.result) at c.stops.ensures) in record { next_byte = record { stops = sym c.if-stops.true ∙ test; run = refl }; length_in_bounds = c.requires.0 }
+    (rw (sub-zero c.end_index-end.result) at c.stops.ensures) in record
+    { next_byte = record { stops = sym c.if-stops.true ∙ test; run = refl }; length_in_bounds = c.requires.0 }
 
 pub slice_bounds-end_behind-end : goal.slice_bounds-end_behind-end
 slice_bounds-end_behind-end c =
@@ -68,4 +69,6 @@ returns c =
     let next = next-answers a.b a.mark a.p a.one.now a.two.now a.reply.now c.step_of-step.result
     (long (goal.at.returns c).Start) c.step_of-step.ensures c.store.ensures c.end_index-end.ensures
     (rw text at c.end_behind-r.ensures.behind) c.count_end.ensures in
-    rw c.advance.ensures (record { next_byte = record { stops = sym c.if-stops.false ∙ test; run = next }; length_in_bounds = c.end_behind-r.ensures.length_in_bounds })
+    rw c.advance.ensures
+    (record
+    { next_byte = record { stops = sym c.if-stops.false ∙ test; run = next }; length_in_bounds = c.end_behind-r.ensures.length_in_bounds })

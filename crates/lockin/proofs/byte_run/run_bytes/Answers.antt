@@ -34,13 +34,13 @@ pub returns-then-at-run : goal.returns-then-at-run
 returns-then-at-run c =
     let args = c.args in
     over args.run.now args.mark args.m _ _ _ _ _ _ c.pass_quiet-p.result
-    (all_taken c.loop-p.invariant c.pass_quiet-p.result c.pass_quiet-p.ensures.by_index c.if-at-run.true)
+    (all_taken c.loop-p.invariant c.pass_quiet-p.result c.pass_quiet-p.ensures.goes_on c.if-at-run.true)
 
 pub next_byte-step-requires : goal.next_byte-step-requires
 next_byte-step-requires c = (
-  rw c.pass_quiet-p.ensures.report_value c.loop-p.invariant.fits,
-  c.pass_quiet-p.ensures.taken_le_taken.2,
-  omega (arith, c.pass_quiet-p.ensures.taken_le_taken.1, c.well_formed.1.0.1),
+  rw c.pass_quiet-p.ensures.report_stays c.loop-p.invariant.fits,
+  c.pass_quiet-p.ensures.onward.2,
+  omega (arith, c.pass_quiet-p.ensures.onward.1, c.well_formed.1.0.1),
 )
 
 pub shape_of-one-then-step : goal.shape_of-one-then-step
@@ -57,21 +57,24 @@ returns-then-step c =
     let args = c.args in
     let inside : c.pass_quiet-p.result.taken < length args.run.now = omega arith in
     over args.run.now args.mark args.m _ _ _ _ _ _ c.next_byte-step.result.progress
-    (stopped-run c.loop-p.invariant c.pass_quiet-p.result c.pass_quiet-p.ensures.by_index inside refl c.marked_at.ensures
+    (stopped-run c.loop-p.invariant c.pass_quiet-p.result c.pass_quiet-p.ensures.goes_on inside refl c.marked_at.ensures
     c.next_byte-step.ensures.next_byte c.if-step.true)
 
 pub loop-p-smaller : goal.loop-p-smaller
 loop-p-smaller c =
     let args = c.args in
     let inside : c.pass_quiet-p.result.taken < length args.run.now = omega arith in
-    let more = one_more c.loop-p.invariant c.pass_quiet-p.result c.pass_quiet-p.ensures.by_index inside refl c.marked_at.ensures
+    let more = one_more c.loop-p.invariant c.pass_quiet-p.result c.pass_quiet-p.ensures.goes_on inside refl
+    c.marked_at.ensures
     c.next_byte-step.ensures.next_byte c.if-step.false in
-    omega (arith, more, c.pass_quiet-p.ensures.taken_le_taken.0)
+    omega (arith, more, c.pass_quiet-p.ensures.onward.0)
 
 pub loop-p-preserved : goal.loop-p-preserved
 loop-p-preserved c =
     let args = c.args in
     let inside : c.pass_quiet-p.result.taken < length args.run.now = omega arith in
-    again c.loop-p.invariant c.pass_quiet-p.result c.pass_quiet-p.ensures.by_index inside refl c.marked_at.ensures c.next_byte-step.ensures.next_byte
-    c.if-step.false c.pass_quiet-p.ensures.taken_le_taken.2 c.next_byte-step.ensures.length_in_bounds c.next_byte-step.auto.reply c.next_byte-step.auto.one
+    again c.loop-p.invariant c.pass_quiet-p.result c.pass_quiet-p.ensures.goes_on inside refl c.marked_at.ensures
+    c.next_byte-step.ensures.next_byte
+    c.if-step.false c.pass_quiet-p.ensures.onward.2 c.next_byte-step.ensures.length_in_bounds
+    c.next_byte-step.auto.reply c.next_byte-step.auto.one
     c.next_byte-step.auto.two

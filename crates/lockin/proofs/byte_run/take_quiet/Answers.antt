@@ -11,7 +11,9 @@ pub loop-taken-init : goal.loop-taken-init
 loop-taken-init c = let pre = c.requires in ((λ room p e. refl), omega arith, pre.0, pre.1)
 
 pub returns-else-is_nothing : goal.returns-else-is_nothing
-returns-else-is_nothing c = let inv = c.loop-taken.invariant in record { by_index = inv.0; taken_le_taken = (inv.1, inv.2, inv.3) }
+returns-else-is_nothing c =
+    let inv = c.loop-taken.invariant in
+    record { goes_on = inv.0; onward = (inv.1, inv.2, inv.3) }
 
 pub loop-taken-preserved : goal.loop-taken-preserved
 loop-taken-preserved c =
@@ -28,4 +30,4 @@ loop-taken-preserved c =
     )
 
 pub returns : goal.returns
-returns c = let inv = c.loop-taken.invariant in record { by_index = inv.0; taken_le_taken = (inv.1, inv.2, inv.3) }
+returns c = let inv = c.loop-taken.invariant in record { goes_on = inv.0; onward = (inv.1, inv.2, inv.3) }

@@ -8,11 +8,11 @@ returns-in-Done c =
     let args = c.args in
     rw c.result_of.ensures
     (let each = run-answers args.bytes.now args.mark args.m _ _
-    (sym c.guard-outcome.ensures ∙ c.in-Done.is) c.run_bytes.ensures in record { meets = each.0; report_value = each.1 })
+    (sym c.guard-outcome.ensures ∙ c.in-Done.is) c.run_bytes.ensures in record { meets = each.0; numbers = each.1 })
 
 pub returns-in-Refused : goal.returns-in-Refused
 returns-in-Refused c =
     let args = c.args in
     rw c.refused_run.ensures
     (let each = run-refused args.bytes.now args.mark args.m _ _ _
-    (sym c.guard-outcome.ensures ∙ c.in-Refused.is) in record { meets = each.0; report_value = each.1 })
+    (sym c.guard-outcome.ensures ∙ c.in-Refused.is) in record { meets = each.0; numbers = each.1 })

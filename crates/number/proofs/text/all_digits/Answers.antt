@@ -11,10 +11,12 @@ pub returns-then-b-lt48 : goal.returns-then-b-lt48
 returns-then-b-lt48 c = sym (c.loop-i.invariant.1 ∙ digits_low _ _ c.loop-i-test.true c.if-b-lt48.true)
 
 pub returns-then-b-gt57 : goal.returns-then-b-gt57
-returns-then-b-gt57 c = sym (c.loop-i.invariant.1 ∙ digits-high _ _ c.loop-i-test.true c.if-b-lt48.false c.if-b-gt57.true)
+returns-then-b-gt57 c =
+    sym (c.loop-i.invariant.1 ∙ digits-high _ _ c.loop-i-test.true c.if-b-lt48.false c.if-b-gt57.true)
 
 pub loop-i-preserved : goal.loop-i-preserved
-loop-i-preserved c = (omega arith, c.loop-i.invariant.1 ∙ digits_more _ _ c.loop-i-test.true c.if-b-lt48.false c.if-b-gt57.false)
+loop-i-preserved c =
+    (omega arith, c.loop-i.invariant.1 ∙ digits_more _ _ c.loop-i-test.true c.if-b-lt48.false c.if-b-gt57.false)
 
 pub returns : goal.returns
 returns c = sym (c.loop-i.invariant.1 ∙ digits-end _ _ c.loop-i-test.false)

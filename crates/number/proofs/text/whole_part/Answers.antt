@@ -30,8 +30,11 @@ grown-value-requires c =
 
 pub loop-index-preserved : goal.loop-index-preserved
 loop-index-preserved c =
-    let a = c.args in
-    (omega arith, c.grown-value.ensures ∙ grow (a.front.now ++ a.back.now) c.loop-index.index _ _ c.loop-index.invariant.1 (ap (λ b. b - 48) c.digit_at-b.ensures))
+    let a = c.args in (
+      omega arith,
+      c.grown-value.ensures
+          ∙ grow (a.front.now ++ a.back.now) c.loop-index.index _ _ c.loop-index.invariant.1 (ap (λ b. b - 48) c.digit_at-b.ensures),
+    )
 
 pub returns : goal.returns
 returns c =
