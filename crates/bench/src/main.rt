@@ -3,7 +3,6 @@
 #![tactic(auto)]
 
 use lockin::Module;
-use std::io::Read;
 
 // The module's serial number.
 const SERIAL: u32 = 42;
@@ -19,67 +18,75 @@ const CAPACITY: usize = 8;
 // and stops before a line whose replies do not fit behind them.
 const ROOM: usize = 8192;
 
-// Hands bytes without an end mark to the module, as one run. Where it stops, its replies are written, and what is left
-// is a run of its own; none comes behind a run that takes nothing.
-fn run_chunk(
-    rt: &impl Print,
-    m: Module,
-    chunk: &[u8],
-    one: &mut [u32],
-    two: &mut [u32],
-    reply: &mut [u8],
-) -> Module {
-    let mut latest = m;
-    let mut at = 0;
-    while at < chunk.len() {
-        let ran = lockin::take_run(latest, &chunk[at..], false, one, two, reply);
-        let taken = ran.report.taken;
-        latest = ran.after;
-        terminal::flush(rt, reply, ran.report.report.length);
-        if taken == 0 {
-            return latest;
-        }
-        if chunk.len() - at <= taken {
-            return latest;
-        }
-        at += taken;
-    }
-    latest
+// A module, its traces and its reply buffer.
+#[derive(Drop)]
+struct Bench {
+    // The module.
+    module: Module,
+    // Trace 1.
+    one: [u32; CAPACITY],
+    // Trace 2.
+    two: [u32; CAPACITY],
+    // The reply buffer.
+    reply: [u8; ROOM],
 }
 
-// Hands all of the input to the module. A proved loop has to end, so this one counts its turns, up to a number that no
-// run reaches.
-fn run_input(
-    rt: &impl Print,
-    reader: &mut impl Read,
-    m: Module,
-    one: &mut [u32],
-    two: &mut [u32],
-    reply: &mut [u8],
-) {
+impl Bench {
+    // A fresh module.
+    fn start() -> Self {
+        let one = [0; CAPACITY];
+        let two = [0; CAPACITY];
+        Bench {
+            module: lockin::start(SERIAL, PORT, &one, &two).after,
+            one,
+            two,
+            reply: [0; ROOM],
+        }
+    }
+
+    // Hands bytes without an end mark to the module, as one run, and writes the replies. Gives how many it took.
+    fn run(&mut self, rt: &impl Print, bytes: &[u8]) -> usize {
+        let ran = lockin::take_run(
+            self.module,
+            bytes,
+            false,
+            &mut self.one,
+            &mut self.two,
+            &mut self.reply,
+        );
+        self.module = ran.after;
+        terminal::write_out(
+            rt,
+            terminal::first_bytes(&self.reply, ran.report.report.length),
+        );
+        ran.report.taken
+    }
+
+    // Hands bytes to the module. Where a run stops, what is left is a run of its own; none comes behind a run that
+    // takes nothing.
+    fn run_chunk(&mut self, rt: &impl Print, chunk: &[u8]) {
+        let mut rest = chunk;
+        while !rest.is_empty() {
+            let taken = self.run(rt, rest);
+            if taken == 0 {
+                return;
+            }
+            rest = terminal::bytes_from(rest, taken);
+        }
+    }
+}
+
+// Hands all of the input to a fresh module. A proved loop has to end, so this one counts its turns, up to a number that
+// no run reaches.
+fn main(rt: HostRuntime) {
+    let mut stdin = rt.stdin();
     let mut chunk = io::large_buffer();
-    let mut latest = m;
+    let mut bench = Bench::start();
     for _ in 0..u64::MAX {
-        let n = terminal::next_chunk(reader, &mut chunk);
+        let n = terminal::next_chunk(&mut stdin, &mut chunk);
         if n == 0 {
             return;
         }
-        latest = run_chunk(rt, latest, &chunk[..n], one, two, reply);
+        bench.run_chunk(&rt, &chunk[..n]);
     }
-}
-
-// Runs the module over traces and a reply buffer of its own.
-fn main(rt: HostRuntime) {
-    let mut one = [0u32; CAPACITY];
-    let mut two = [0u32; CAPACITY];
-    let mut reply = [0u8; ROOM];
-    let started = lockin::start(SERIAL, PORT, &one, &two);
-    run_input(
-        &rt,
-        &mut rt.stdin(),
-        started.after,
-        &mut one,
-        &mut two,
-        &mut reply,
-    );
 }

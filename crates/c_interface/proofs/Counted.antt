@@ -7,15 +7,14 @@ use native.Mathlib.Omega.{arith}
 use lib.Dec.{eqb}
 use lib.ListN.{length}
 use borrow.Author.Tests.{ltb-false}
+use Rattle.std.specs.Prelude.{Ok, Err}
 use Rattle.split.specs.Divide.{on_head, parts}
 use Rattle.outcome.specs.declared.Refusal.TheVariants.{LongScriptLine, BadTraces}
-use Rattle.outcome.specs.declared.Outcome.{Outcome}
-use Rattle.outcome.specs.declared.Outcome.TheVariants as outcome
+use Rattle.outcome.specs.Code.{Outcome}
+use Rattle.outcome.specs.Answer.{Answer, refused_at}
 use Rattle.line_text.specs.Clean.{cleaned}
 use Rattle.command.specs.Parsed.{parsed_of}
 use Rattle.line_text.specs.Texts.{semicolon, texts_of}
-use Rattle.outcome.specs.declared.Answer.{Answer}
-use Rattle.outcome.specs.declared.Answer.TheVariants.{Passed, Refused}
 use Rattle.line_text.proofs.Bound.{cleaned-length}
 use Rattle.extreme_courses.specs.Model.{model_fits}
 use Rattle.extreme_courses.specs.declared.Model.{Model}
@@ -61,14 +60,14 @@ lines_length (b ∷ bs) =
 
 -- an answer whose place can be told
 abbrev PlaceFits : Answer → Type 0
-PlaceFits Passed = Unit {0}
-PlaceFits (Refused r place) = place ≤ place_most
+PlaceFits (Ok _) = Unit {0}
+PlaceFits (Err e) = e.place ≤ place_most
 
 answer-fits : (o : Outcome) (place : ℕ) (later : Answer) → place ≤ place_most → PlaceFits later
     → PlaceFits (answer_at o place later)
 unfolding answer_at
-answer-fits outcome.Done place later h f = f
-answer-fits (outcome.Refused r) place later h f = h
+answer-fits (Ok _) place later h f = f
+answer-fits (Err r) place later h f = h
 
 texts_fit : (model : Model) (place : ℕ) (ts : List (List ℕ)) (b : Extremes) → place + length ts ≤ suc place_most
     → PlaceFits (texts_answer model place ts b)
@@ -83,7 +82,7 @@ line-fits : (model : Model) (l : List ℕ) (b : Extremes) → PlaceFits (line_an
 unfolding line_answer
 line-fits model l b = by (line_too_long l) refl where
   by : (t : Bool) → line_too_long l ≡ t
-      → PlaceFits (cond t (Refused LongScriptLine 0) (texts_answer model 1 (texts_of l) (before_line model b)))
+      → PlaceFits (cond t (refused_at LongScriptLine 0) (texts_answer model 1 (texts_of l) (before_line model b)))
   by true e = omega arith
   by false e =
       texts_fit model 1 (texts_of l) (before_line model b)
@@ -100,10 +99,10 @@ FoundFits lines (stop i place r) = (i < lines) × (place ≤ place_most)
 by_fits : (lines : ℕ) (a : Answer) (rest : Finding) → PlaceFits a → FoundFits lines rest
     → FoundFits (suc lines) (found_by a rest)
 unfolding found_by
-by_fits lines Passed fine f g = tt
-by_fits lines Passed no_command f g = tt
-by_fits lines Passed (stop i place r) f g = (omega (arith, g.0), g.1)
-by_fits lines (Refused r place) rest f g = (omega arith, f)
+by_fits lines (Ok _) fine f g = tt
+by_fits lines (Ok _) no_command f g = tt
+by_fits lines (Ok _) (stop i place r) f g = (omega (arith, g.0), g.1)
+by_fits lines (Err e) rest f g = (omega arith, f)
 
 lines_fit : (model : Model) (ls : List (List ℕ)) (b : Extremes) → FoundFits (length ls) (finding model ls b)
 unfolding finding

@@ -4,7 +4,7 @@ use mathlib.Core.Bool.{Bool, true, false}
 use mathlib.Core.Path.{◌≡◌, refl, sym, ap, ◌∙◌}
 use mathlib.Core.List.{List, [], ◌∷◌, ◌++◌}
 use native.Mathlib.Omega.{arith}
-use native.Mathlib.Nat.{pow-succ', pow-le-pow_right, sub-zero, div-one, div-div-eq-div-mul}
+use native.Mathlib.Nat.{pow-succ', pow-le-pow_right, div-one, div-div-eq-div-mul}
 use lib.Dec.{ltb}
 use lib.ListN.{length, take}
 use borrow.Author.Tests.{lt-ltb, ltb-true, ltb-false}
@@ -42,13 +42,13 @@ fewest_places n k f = by (ltb (digit_count n) k) refl where
 
 -- what is written: as many bytes as are reported
 pub record Writes (n k : ℕ) (out : List ℕ) : Type 0 where
-  pub shows : take (k - 0) out ≡ plain n
-  pub few : length (take (k - 0) out) ≤ 20
+  pub shows : take k out ≡ plain n
+  pub few : length (take k out) ≤ 20
 
 pub decimal_writes : (n k : ℕ) (out : List ℕ) → n < 2 ^ 64 → IsDigitCount 10 1 n k → take k out ≡ last_digits 10 k n →
     Writes n k out
 unfolding plain
 decimal_writes n k out h f e =
-    let shows : take (k - 0) out ≡ plain n =
-    rw (sub-zero k) (e ∙ digits-padded k n ∙ ap (λ m. padded m n) (fewest_places n k f)) in
+    let shows : take k out ≡ plain n =
+    e ∙ digits-padded k n ∙ ap (λ m. padded m n) (fewest_places n k f) in
     record { shows = shows; few = rw shows (plain-length 20 n (omega arith) (omega arith)) }

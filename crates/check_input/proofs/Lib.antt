@@ -4,4 +4,3 @@ pub mod Capacity
 pub mod Whole
 pub mod Pieces
 pub mod Decimal
-pub mod Pushed

@@ -19,19 +19,6 @@ pub struct Input {
     pub len: usize,
 }
 
-impl Input {
-    // Nothing has been read.
-    pub fn start() -> Input
-        ensures { result ≡ start_input }
-    {
-        Input {
-            ending: false,
-            capacity: 0,
-            len: 0,
-        }
-    }
-}
-
 // The capacity after one more byte of line one. A number past every capacity stays, so that any run of digits can be
 // read.
 fn capacity_after(capacity: u32, b: u8) -> u32
@@ -46,61 +33,58 @@ fn capacity_after(capacity: u32, b: u8) -> u32
     }
 }
 
-// What has been read after a byte of line one, or after the LF that ends it.
-fn line_one_after(input: Input, b: u8) -> Input
-    ensures { result ≡ line_one_after b input }
-{
-    if b == b'\n' {
-        return Input {
-            ending: true,
-            capacity: input.capacity,
-            len: input.len,
-        };
+impl Input {
+    // Nothing has been read.
+    pub fn start() -> Input
+        ensures { result ≡ start_input }
+    {
+        Input {
+            ending: false,
+            capacity: 0,
+            len: 0,
+        }
     }
-    Input {
-        ending: false,
-        capacity: capacity_after(input.capacity, b),
-        len: input.len,
-    }
-}
 
-// Stores a byte of the script behind those that there are. Where there is no room it is dropped.
-fn script_after(input: Input, b: u8, script: &mut [u8]) -> Input
-    ensures { memory result script.new ≡ script_after b (memory input script.old) }
-{
-    let len = input.len;
-    if len < script.len() {
-        script[len] = b;
-        return Input {
-            ending: input.ending,
-            capacity: input.capacity,
-            len: len + 1,
-        };
+    // Takes a byte of line one, or the LF that ends it.
+    fn take_line_one(&mut self, b: u8)
+        ensures { self.new ≡ line_one_after b self.old }
+    {
+        if b == b'\n' {
+            self.ending = true;
+        } else {
+            self.ending = false;
+            self.capacity = capacity_after(self.capacity, b);
+        }
     }
-    input
-}
 
-// Stores a byte of line one or of the script.
-fn store_byte(input: Input, b: u8, script: &mut [u8]) -> Input
-    ensures { memory result script.new ≡ after_byte b (memory input script.old) }
-{
-    let ending = input.ending;
-    if ending {
-        return script_after(input, b, script);
+    // Stores a byte of the script behind those that there are. Where there is no room it is dropped.
+    fn take_script(&mut self, b: u8, script: &mut [u8])
+        ensures { memory self.new script.new ≡ script_after b (memory self.old script.old) }
+    {
+        if self.len < script.len() {
+            script[self.len] = b;
+            self.len += 1;
+        }
     }
-    line_one_after(input, b)
-}
 
-// Stores the next bytes of the input.
-pub fn store_bytes(input: Input, bytes: &[u8], script: &mut [u8]) -> Input
-    ensures { memory result script.new
-        ≡ after_bytes bytes.now (memory input script.old) }
-{
-    let mut latest = input;
-    let mut i = 0;
-    while i < bytes.len() {
-        latest = store_byte(latest, bytes[i], script);
-        i += 1;
+    // Takes a byte of line one or of the script.
+    fn take_byte(&mut self, b: u8, script: &mut [u8])
+        ensures { memory self.new script.new ≡ after_byte b (memory self.old script.old) }
+    {
+        if self.ending {
+            self.take_script(b, script);
+        } else {
+            self.take_line_one(b);
+        }
     }
-    latest
+
+    // Takes the next bytes of the input.
+    pub fn take_bytes(&mut self, bytes: &[u8], script: &mut [u8])
+        ensures { memory self.new script.new
+            ≡ after_bytes bytes.now (memory self.old script.old) }
+    {
+        for b in bytes {
+            self.take_byte(*b, script);
+        }
+    }
 }

@@ -18,7 +18,7 @@ use script::Model;
 pub use source::{read_input, script_buffer};
 use std::io::Read;
 use verdict::Verdict;
-pub use verdict_line::{VerdictLine, report_verdict, write_line};
+pub use verdict_line::VerdictLine;
 
 // The most bytes that a script has.
 const SCRIPT_LIMIT: usize = 60000;
@@ -48,7 +48,7 @@ pub fn verdict_from(input: Input, script: &[u8]) -> Verdict
 pub fn output_line(input: Input, script: &[u8]) -> VerdictLine
     ensures { Outputs (memory input script.now) (line_bytes result) }
 {
-    verdict_line::verdict_line_of(verdict_from(input, script))
+    VerdictLine::of(verdict_from(input, script))
 }
 
 // Reads the input to its end, and gives the line that the check program writes.

@@ -5,7 +5,7 @@ ghost use Rattle.check_input.specs.Input.{script_limit};
 ghost use Rattle.check_input.specs.Whole.{Reads};
 
 use crate::SCRIPT_LIMIT;
-use crate::bytes::{Input, store_bytes};
+use crate::bytes::Input;
 use std::io::Read;
 
 // Room for a script, and for one byte more, which shows that there are more than the limit.
@@ -30,7 +30,7 @@ pub fn read_input(reader: &mut impl Read, script: &mut [u8]) -> Input
         if n == 0 {
             return input;
         }
-        input = store_bytes(input, &chunk[..n], script);
+        input.take_bytes(&chunk[..n], script);
     }
     input
 }

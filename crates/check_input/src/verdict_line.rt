@@ -19,77 +19,71 @@ pub struct VerdictLine {
     pub len: usize,
 }
 
-// The line with more bytes at its end.
-fn append(line: VerdictLine, part: &[u8]) -> VerdictLine
-    requires { line.len + length part.now ≤ 66 }
-    ensures { (line_bytes result ≡ line_bytes line ++ part.now)
-        × (result.len ≡ line.len + length part.now) }
-{
-    let mut bytes = line.bytes;
-    let len = line.len;
-    let mut i = 0;
-    while i < part.len() {
-        bytes[len + i] = part[i];
-        i += 1;
+impl VerdictLine {
+    // A line of these bytes.
+    fn of_bytes(part: &[u8]) -> VerdictLine
+        requires { length part.now ≤ 66 }
+        ensures { (line_bytes result ≡ part.now) × (result.len ≡ length part.now) }
+    {
+        let mut line = VerdictLine {
+            bytes: [0; ROOM],
+            len: 0,
+        };
+        line.append(part);
+        line
     }
-    VerdictLine {
-        bytes,
-        len: len + part.len(),
+
+    // Appends bytes.
+    fn append(&mut self, part: &[u8])
+        requires { self.old.len + length part.now ≤ 66 }
+        ensures { (line_bytes self.new ≡ line_bytes self.old ++ part.now)
+            × (self.new.len ≡ self.old.len + length part.now) }
+    {
+        let start = self.len;
+        let end = start + part.len();
+        self.bytes[start..end].copy_from_slice(part);
+        self.len = end;
     }
-}
 
-// The line with a space and a number at its end.
-fn append_number(line: VerdictLine, value: u64) -> VerdictLine
-    requires { line.len ≤ 45 }
-    ensures { (line_bytes result ≡ line_bytes line ++ spaced value) × (result.len ≤ line.len + 21) }
-{
-    let mut digits = [0u8; 20];
-    let n = io::decimal(value, &mut digits);
-    let space = append(line, b" ");
-    append(space, &digits[0..n])
-}
-
-// A line of these bytes.
-fn line_of_bytes(part: &[u8]) -> VerdictLine
-    requires { length part.now ≤ 66 }
-    ensures { (line_bytes result ≡ part.now) × (result.len ≡ length part.now) }
-{
-    let line = VerdictLine {
-        bytes: [0; ROOM],
-        len: 0,
-    };
-    append(line, part)
-}
-
-// The line of a no.
-fn no_line(line: usize, place: u32, refusal: Refusal) -> VerdictLine
-    ensures { line_bytes result ≡ said_text (no line place (code_of refusal).number) }
-{
-    let meaning = outcome::code_of(refusal);
-    let no = line_of_bytes(b"no");
-    let with_line = append_number(no, line as u64);
-    let with_place = append_number(with_line, place as u64);
-    let with_refusal = append_number(with_place, meaning.number as u64);
-    append(with_refusal, b"\n")
-}
-
-// The line of a verdict.
-pub fn verdict_line_of(verdict: Verdict) -> VerdictLine
-    ensures { line_bytes result ≡ verdict_text verdict }
-{
-    match verdict {
-        Verdict::Fine => line_of_bytes(b"ok\n"),
-        Verdict::No(line, place, refusal) => no_line(line, place, refusal),
+    // Appends a space and a number.
+    fn append_number(&mut self, value: u64)
+        requires { self.old.len ≤ 45 }
+        ensures { (line_bytes self.new ≡ line_bytes self.old ++ spaced value)
+            × (self.new.len ≤ self.old.len + 21) }
+    {
+        let mut digits = [0u8; 20];
+        let n = io::decimal(value, &mut digits);
+        self.append(b" ");
+        self.append(&digits[..n]);
     }
-}
 
-// Writes a line to standard output.
-pub fn write_line(rt: &impl Print, line: VerdictLine) {
-    let bytes = line.bytes;
-    terminal::flush(rt, &bytes, line.len);
-}
+    // The line of a no.
+    fn of_no(line: usize, place: u32, refusal: Refusal) -> VerdictLine
+        ensures { line_bytes result ≡ said_text (no line place (code_of refusal).number) }
+    {
+        let meaning = outcome::code_of(refusal);
+        let mut text = VerdictLine::of_bytes(b"no");
+        text.append_number(line as u64);
+        text.append_number(place as u64);
+        text.append_number(meaning.number as u64);
+        text.append(b"\n");
+        text
+    }
 
-// Writes a verdict to standard output, as a line.
-pub fn report_verdict(rt: &impl Print, verdict: Verdict) {
-    write_line(rt, verdict_line_of(verdict));
+    // The line of a verdict.
+    pub fn of(verdict: Verdict) -> VerdictLine
+        ensures { line_bytes result ≡ verdict_text verdict }
+    {
+        match verdict {
+            Verdict::Fine => VerdictLine::of_bytes(b"ok\n"),
+            Verdict::No(line, place, refusal) => VerdictLine::of_no(line, place, refusal),
+        }
+    }
+
+    // Its bytes.
+    pub fn text(&self) -> &[u8]
+        ensures { result.now ≡ line_bytes self.now }
+    {
+        terminal::first_bytes(&self.bytes, self.len)
+    }
 }

@@ -1,4 +1,4 @@
 -- Laws of a command's text.
-pub mod Divided
+pub mod Comma
 pub mod Exact
-pub mod Words
+pub mod Name

@@ -1,116 +1,128 @@
--- What only inner functions are held to: a command's arguments by where the commas stand (proofs/Divided.antt joins it
--- to Arguments), and what comes of them by the quantities of their numbers (proofs/Exact.antt joins it to Parsed). No
--- promise of a public call speaks of these.
-use Rattle.std.specs.Prelude.{ℕ, ◌+◌, ◌-◌, ◌*◌, Bool, cond, ◌&&◌, List, [], ◌∷◌, leb, ltb, eqb, length}
-use Rattle.split.specs.Divide.{span, after}
-use Rattle.number.specs.Number.{is_number}
-use Rattle.number.specs.Value.{exact_of}
-use Rattle.number.specs.Parts.{quantity_of, read_of, taken_of}
+-- What only inner functions are held to: a command's arguments by where the commas stand, each as the quantity of its
+-- number, and what comes of them. Exact in `proofs` joins it to Parsed. No promise of a public call speaks of these.
+use Rattle.std.specs.Prelude.{ℕ, ◌+◌, ◌-◌, ◌*◌, cond, List, [], ◌∷◌, ltb, length, Result, Ok, Err, ok_or}
+use Rattle.split.specs.Divide.{span, before, after}
+use Rattle.number.specs.Parts.{read_of, taken_of}
 use Rattle.number.specs.declared.Quantity.{Quantity}
-use Rattle.number.specs.declared.Reading.{Reading}
-use Rattle.number.specs.declared.Reading.TheVariants.{NotNumber}
-use Rattle.number.specs.declared.Argument.{Argument}
 use Rattle.settings.specs.Limits.{capacity_least, capacity_most}
+use Rattle.settings.specs.Table.{row_of}
 use Rattle.settings.specs.Parts.{value_taken}
+use Rattle.outcome.specs.declared.Refusal.{Refusal}
+use Rattle.outcome.specs.declared.Refusal.TheVariants.{Malformed, OutOfRange}
 use Rattle.mnemonic.specs.declared.Register.{Register}
 use Rattle.mnemonic.specs.declared.Form.{Form}
 use Rattle.command.specs.Arguments.{comma}
-use Rattle.command.specs.Parsed.{taken, with, whole_range, bit_most, register_most, traces}
+use Rattle.command.specs.Parsed.{Read, whole_range, bit_most, register_most, traces}
 use Rattle.command.specs.declared.SetArgument.TheVariants as set
 use Rattle.command.specs.declared.QueryArgument.TheVariants as query
 use Rattle.command.specs.declared.Kind.TheVariants.{Set, Query}
-use Rattle.command.specs.declared.Parsed.{Parsed}
-use Rattle.command.specs.declared.Two.{Two}
-use Rattle.command.specs.declared.Two.TheVariants.{At, Not}
-use Rattle.command.specs.declared.TwoNumbers.{TwoNumbers}
-use Rattle.command.specs.declared.TwoNumbers.TheVariants as pair
-use Rattle.command.specs.declared.ThreeNumbers.{ThreeNumbers}
-use Rattle.command.specs.declared.ThreeNumbers.TheVariants as triple
 
--- whether a text is one argument: some bytes and no comma
-unfoldable pub alone_of : List ℕ → Bool
-alone_of s = leb 1 (length s) && eqb (span comma s) (length s)
+-- a value, on which the rest goes on, or the refusal that stands in its place
+infixl 10 ◌>>=◌
+abbrev pub ◌>>=◌ : {A B : Type 0} → Result A Refusal → (A → Result B Refusal) → Result B Refusal
+Ok v >>= k = k v
+Err r >>= k = Err r
 
--- whether a text is two arguments, and the offset of the comma between them
-unfoldable pub two_of : List ℕ → Two
-two_of s =
+-- one argument: a number with d decimals
+unfoldable pub read_one : ℕ → List ℕ → Result Quantity Refusal
+read_one d s = ok_or (read_of d s) Malformed
+
+-- two arguments: numbers with d and e decimals
+unfoldable pub read_two : ℕ → ℕ → List ℕ → Result (Quantity × Quantity) Refusal
+read_two d e s =
     cond (ltb (span comma s) (length s))
-    (cond (ltb (span comma (after comma s)) (length (after comma s))) Not (At (span comma s)))
-    Not
+    (read_one d (before comma s) >>= λ a. read_one e (after comma s) >>= λ b. Ok (a, b))
+    (Err Malformed)
 
--- the quantity of a number's text, in units of 10^-decimals
-abbrev pub kept : ℕ → List ℕ → Quantity
-kept decimals a = quantity_of (exact_of decimals a)
-
--- one argument that is a number with d decimals
-unfoldable pub read_one : ℕ → List (List ℕ) → Reading
-read_one d [] = NotNumber
-read_one d (a ∷ []) = read_of d a
-read_one d (a ∷ b ∷ more) = NotNumber
-
--- two arguments that are numbers with d and e decimals
-unfoldable pub read_two : ℕ → ℕ → List (List ℕ) → TwoNumbers
-read_two d e [] = pair.Not
-read_two d e (a ∷ []) = pair.Not
-read_two d e (a ∷ b ∷ []) = cond (is_number a && is_number b) (pair.Values (kept d a) (kept e b)) pair.Not
-read_two d e (a ∷ b ∷ c ∷ more) = pair.Not
-
--- three arguments that are numbers with d, e and f decimals
-unfoldable pub read_three : ℕ → ℕ → ℕ → List (List ℕ) → ThreeNumbers
-read_three d e f [] = triple.Not
-read_three d e f (a ∷ []) = triple.Not
-read_three d e f (a ∷ b ∷ []) = triple.Not
-read_three d e f (a ∷ b ∷ c ∷ []) =
-    cond (is_number a && (is_number b && is_number c)) (triple.Values (kept d a) (kept e b) (kept f c)) triple.Not
-read_three d e f (a ∷ b ∷ c ∷ g ∷ more) = triple.Not
+-- three arguments: numbers with d, e and f decimals
+unfoldable pub read_three : ℕ → ℕ → ℕ → List ℕ → Result (Quantity × Quantity × Quantity) Refusal
+read_three d e f s =
+    cond (ltb (span comma s) (length s))
+    (read_one d (before comma s) >>= λ a. read_two e f (after comma s) >>= λ b. Ok (a, b.0, b.1))
+    (Err Malformed)
 
 -- a quantity as a whole-number argument from low to high
-abbrev pub whole_argument : ℕ → ℕ → Quantity → Argument
-whole_argument low high q = taken_of (whole_range low high) q
+unfoldable pub whole_taken : ℕ → ℕ → Quantity → Result ℕ Refusal
+whole_taken low high q = ok_or (taken_of (whole_range low high) q) OutOfRange
 
--- a set of a setting without channels, once its number is read
-unfoldable pub setting_taken : ℕ → Quantity → Parsed
-setting_taken entry x = with (value_taken entry x) λ v. taken (Set (set.Value entry v))
+-- a quantity as a setting's value
+unfoldable pub setting_taken : ℕ → Quantity → Result ℕ Refusal
+setting_taken entry q = ok_or (value_taken entry q) OutOfRange
 
--- a set of channel i of a setting, once its numbers are read
-unfoldable pub channel_taken : ℕ → ℕ → Quantity → Quantity → Parsed
-channel_taken base channels i x =
-    with (whole_argument 1 channels i) λ n. with (value_taken base x) λ v. taken (Set (set.Value (base + (n - 1)) v))
+-- one argument: a whole number from low to high
+unfoldable pub read_whole : ℕ → ℕ → List ℕ → Result ℕ Refusal
+read_whole low high s = read_one 0 s >>= whole_taken low high
 
--- a set of the two settings of channel i, once its numbers are read
-unfoldable pub pair_taken : ℕ → ℕ → Quantity → Quantity → Quantity → Parsed
-pair_taken base channels i x y =
-    with (whole_argument 1 channels i) λ n. with (value_taken base x) λ v. with (value_taken (base + 1) y) λ w.
-    taken (Set (set.Pair (base + 2 * (n - 1)) v w))
+-- a set of a setting without channels
+abbrev pub setting_read : ℕ → List ℕ → Read
+setting_read entry s = do
+  x ← read_one (row_of entry).decimals s
+  v ← setting_taken entry x
+  Ok (Set (set.Value entry v))
 
--- a set of an enable, once its number is read
-unfoldable pub enable_taken : Register → Quantity → Parsed
-enable_taken r v = with (whole_argument 0 register_most v) λ x. taken (Set (set.Enable r x))
+-- a set of one channel's setting
+abbrev pub channel_read : ℕ → ℕ → List ℕ → Read
+channel_read base channels s = do
+  a ← read_two 0 (row_of base).decimals s
+  n ← whole_taken 1 channels a.0
+  v ← setting_taken base a.1
+  Ok (Set (set.Value (base + (n - 1)) v))
 
--- a set of bit i of an enable, once its numbers are read
-unfoldable pub enable_bit_taken : Register → Quantity → Quantity → Parsed
-enable_bit_taken r i v =
-    with (whole_argument 0 bit_most i) λ b. with (whole_argument 0 1 v) λ x. taken (Set (set.EnableBit r b x))
+-- a set of a channel's two settings
+abbrev pub pair_read : ℕ → ℕ → List ℕ → Read
+pair_read base channels s = do
+  a ← read_three 0 (row_of base).decimals (row_of (base + 1)).decimals s
+  n ← whole_taken 1 channels a.0
+  v ← setting_taken base a.1
+  w ← setting_taken (base + 1) a.2
+  Ok (Set (set.Pair (base + 2 * (n - 1)) v w))
 
--- a query of channel i of a setting, once its number is read
-unfoldable pub channel_asked : ℕ → ℕ → Quantity → Parsed
-channel_asked base channels i = with (whole_argument 1 channels i) λ n. taken (Query (query.Value (base + (n - 1))))
+-- a set of bit i of an enable
+abbrev pub bit_read : Register → List ℕ → Read
+bit_read r s = do
+  a ← read_two 0 0 s
+  b ← whole_taken 0 bit_most a.0
+  v ← whole_taken 0 1 a.1
+  Ok (Set (set.EnableBit r b v))
 
--- a query of the two settings of channel i, once its number is read
-unfoldable pub pair_asked : ℕ → ℕ → Quantity → Parsed
-pair_asked base channels i = with (whole_argument 1 channels i) λ n. taken (Query (query.Pair (base + 2 * (n - 1))))
+-- a set of an enable: all of it where the text is a number, else one bit
+abbrev pub enable_read : Register → List ℕ → Read
+enable_read r s = by (read_one 0 s) where
+  by : Result Quantity Refusal → Read
+  by (Ok q) = whole_taken 0 register_most q >>= λ v. Ok (Set (set.Enable r v))
+  by (Err e) = bit_read r s
 
--- a query of bit i of an enable, once its number is read
-unfoldable pub enable_bit_asked : Register → Quantity → Parsed
-enable_bit_asked r i = with (whole_argument 0 bit_most i) λ b. taken (Query (query.EnableBit r b))
+-- a query of one channel's setting
+abbrev pub channel_asked : ℕ → ℕ → List ℕ → Read
+channel_asked base channels s = do
+  n ← read_whole 1 channels s
+  Ok (Query (query.Value (base + (n - 1))))
 
--- a query of bit i of an event register or of the status byte, once its number is read
-unfoldable pub status_bit_asked : Register → Quantity → Parsed
-status_bit_asked r i = with (whole_argument 0 bit_most i) λ b. taken (Query (query.StatusBit r b))
+-- a query of a channel's two settings
+abbrev pub pair_asked : ℕ → ℕ → List ℕ → Read
+pair_asked base channels s = do
+  n ← read_whole 1 channels s
+  Ok (Query (query.Pair (base + 2 * (n - 1))))
 
--- a query of k points of trace i from bin j on, once its numbers are read
-unfoldable pub trace_asked : Form → Quantity → Quantity → Quantity → Parsed
-trace_asked form i j k =
-    with (whole_argument 1 traces i) λ t. with (whole_argument 0 capacity_most j) λ b.
-    with (whole_argument capacity_least capacity_most k) λ n.
-    taken (Query (query.Trace form t b n))
+-- a query of an enable: all of it where there is no argument, else one bit
+abbrev pub enable_asked : Register → List ℕ → Read
+enable_asked r [] = Ok (Query (query.Enable r))
+enable_asked r (c ∷ cs) = do
+  b ← read_whole 0 bit_most (c ∷ cs)
+  Ok (Query (query.EnableBit r b))
+
+-- a query of an event register or of the status byte: all of it where there is no argument, else one bit
+abbrev pub status_asked : Register → List ℕ → Read
+status_asked r [] = Ok (Query (query.Status r))
+status_asked r (c ∷ cs) = do
+  b ← read_whole 0 bit_most (c ∷ cs)
+  Ok (Query (query.StatusBit r b))
+
+-- a query of k points of trace i from bin j on
+abbrev pub trace_asked : Form → List ℕ → Read
+trace_asked form s = do
+  a ← read_three 0 0 0 s
+  t ← whole_taken 1 traces a.0
+  b ← whole_taken 0 capacity_most a.1
+  n ← whole_taken capacity_least capacity_most a.2
+  Ok (Query (query.Trace form t b n))

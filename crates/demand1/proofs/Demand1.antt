@@ -7,12 +7,14 @@ use mathlib.Core.Bool.{Bool, true, false, cond, ◌&&◌, ◌||◌}
 use mathlib.Core.List.{List}
 use lib.Dec.{ltb, eqb}
 use lib.ListN.{length}
+use Rattle.std.specs.Prelude.{Err}
 use Rattle.laws.proofs.Tests.{never}
 use Rattle.outcome.specs.declared.Refusal.{Refusal}
 use Rattle.outcome.specs.declared.Refusal.TheVariants.{LongLine, BadEvent, BadTraces, BadStart, BadState}
-use Rattle.outcome.specs.declared.Outcome.{Outcome}
-use Rattle.outcome.specs.declared.Outcome.TheVariants.{Done, Refused}
-use Rattle.outcome.specs.declared.Answer.TheVariants as answer
+use Rattle.outcome.specs.Code.{Outcome}
+use Rattle.outcome.specs.Answer.{refused_at}
+use Rattle.outcome.proofs.Placed.{told_refusal, told_place}
+use Rattle.outcome.specs.Code as outcome
 use Rattle.line_text.specs.Texts.{texts_of}
 use Rattle.status.specs.Status.{may_raise, with_raised}
 use Rattle.state.specs.State.{pair_of, with_registers, with_latest}
@@ -49,13 +51,13 @@ use Rattle.invariant.proofs.OneCommand.{open_call}
 
 -- refusals 11 and 9, by the tests that decide them
 guard_by : (m : Module) (first second : ℕ) (P : Outcome → Type 0) →
-    P Done → P (Refused BadTraces) → P (Refused BadState) → P (guard_of m first second)
+    P outcome.done → P (Err BadTraces) → P (Err BadState) → P (guard_of m first second)
 unfolding guard_of
 guard_by m first second P d t s =
     let capacity = m.state.installation.capacity in
     by (valid_module m) (eqb first capacity && eqb second capacity)
   where
-    by : (a b : Bool) → P (cond a (cond b Done (Refused BadTraces)) (Refused BadState))
+    by : (a b : Bool) → P (cond a (cond b outcome.done (Err BadTraces)) (Err BadState))
     by true true = d
     by true false = t
     by false b = s
@@ -88,18 +90,18 @@ ran_runs room bytes m q one two =
 
 -- its commands' places are counted from 1
 placed_never : {A : Type 0} (room : ℕ) (bytes : List ℕ) (m : Module) (q : Queue) (one two : List ℕ) (c : Call) →
-    RunsLine room bytes m q one two c → (r : Refusal) → c.report.answer ≡ answer.Refused r 0 → A
+    RunsLine room bytes m q one two c → (r : Refusal) → c.report.answer ≡ refused_at r 0 → A
 placed_never room bytes m q one two c x r e = absurd (omega (arith, (x.placed r 0 e).counted))
 
-nowhere_never : {A : Type 0} (r q : Refusal) (p : ℕ) → answer.Refused r 0 ≡ answer.Refused q (p + 1) → A
-nowhere_never r q p e = let z : 0 ≡ p + 1 = cc in absurd (omega arith)
+nowhere_never : {A : Type 0} (r q : Refusal) (p : ℕ) → refused_at r 0 ≡ refused_at q (p + 1) → A
+nowhere_never r q p e = let z : 0 ≡ p + 1 = told_place e in absurd (omega arith)
 
 -- ---- refused before any command
 
 module _ (m : Module) (one two : List ℕ) (refusal : Refusal) (q : Queue) where
   -- the promise of a call
   Refuses : Call → Type 0
-  Refuses c = c.report.answer ≡ answer.Refused refusal 0 → RefusedCall m q one two c refusal
+  Refuses c = c.report.answer ≡ refused_at refusal 0 → RefusedCall m q one two c refusal
 
   -- 11 and 9 refuse it, or it refuses by itself
   abbrev guarded_call : Outcome → Call → Call
@@ -109,10 +111,10 @@ module _ (m : Module) (one two : List ℕ) (refusal : Refusal) (q : Queue) where
   unfolding guarded Refuses
   guarded-refuses c f =
       guard_by m (length one) (length two) (λ o. Refuses (guarded_call o c)) f
-      (λ e. let same : BadTraces ≡ refusal = cc in rw (← same) (demand.traces_refused (same_all BadTraces)))
-      (λ e. let same : BadState ≡ refusal = cc in rw (← same) (demand.state_refused (same_all BadState)))
+      (λ e. let same : BadTraces ≡ refusal = told_refusal e in rw (← same) (demand.traces_refused (same_all BadTraces)))
+      (λ e. let same : BadState ≡ refusal = told_refusal e in rw (← same) (demand.state_refused (same_all BadState)))
     where
-      same_all : (r : Refusal) → Untouched m one two (guarded_call (Refused r) c)
+      same_all : (r : Refusal) → Untouched m one two (guarded_call (Err r) c)
       same_all r = record { after = refl; first = refl; second = refl; reply = refl; length = refl }
 
   -- what comes of a line's end: 5 alone is reported at place 0, and then the queue is q
@@ -124,7 +126,7 @@ module _ (m : Module) (one two : List ℕ) (refusal : Refusal) (q : Queue) where
       let c = with_queue t (line_ran (line_of room bytes m.state one two)) in
       placed_never room bytes m t one two c (ran_runs room bytes m t one two) refusal
   end-refuses ending.TooLong room bytes t h = λ e.
-      let same : LongLine ≡ refusal = cc in
+      let same : LongLine ≡ refusal = told_refusal e in
       let x : OnlyMarked m q one two (with_queue t (line_end ending.TooLong room bytes m.state one two)) = record {
         marked = marked-only LongLine 0 m.state refl;
         queue = h refl;
@@ -184,30 +186,30 @@ byte-refused room b mark m one two refusal =
 -- ---- the calls that run a line
 
 module _ (m : Module) (one two : List ℕ) where
-  guarded-done : (c : Call) → guard_of m (length one) (length two) ≡ Done →
+  guarded-done : (c : Call) → guard_of m (length one) (length two) ≡ outcome.done →
       guarded refused_whole (guard_of m (length one) (length two)) c m one two ≡ c
   unfolding guarded
   guarded-done c g = rw g
 
   -- an answer with a place other than 0 is given only where 11 and 9 do not refuse
   guarded-placed : (P : Call → Type 0) (c : Call) (r : Refusal) (p : ℕ) →
-      (c.report.answer ≡ answer.Refused r (p + 1) → P c) →
+      (c.report.answer ≡ refused_at r (p + 1) → P c) →
       let d = guarded refused_whole (guard_of m (length one) (length two)) c m one two in
-      d.report.answer ≡ answer.Refused r (p + 1) → P d
+      d.report.answer ≡ refused_at r (p + 1) → P d
   unfolding guarded
   guarded-placed P c r p f =
       guard_by m (length one) (length two)
-      (λ o. let d = guarded refused_whole o c m one two in d.report.answer ≡ answer.Refused r (p + 1) → P d)
+      (λ o. let d = guarded refused_whole o c m one two in d.report.answer ≡ refused_at r (p + 1) → P d)
       f (λ e. nowhere_never BadTraces r p e) (λ e. nowhere_never BadState r p e)
 
 line_runs : (room : ℕ) (bytes : List ℕ) (m : Module) (one two : List ℕ) →
-    guard_of m (length one) (length two) ≡ Done → length bytes ≤ queue.line_limit →
+    guard_of m (length one) (length two) ≡ outcome.done → length bytes ≤ queue.line_limit →
     RunsLine room bytes m m.queue one two (line_call room bytes m one two)
 line_runs room bytes m one two g h =
     rw (open_call room bytes m one two g h) (ran_runs room bytes m m.queue one two)
 
 line-placed : (room : ℕ) (bytes : List ℕ) (m : Module) (one two : List ℕ) (refusal : Refusal) (p : ℕ) →
-    (line_call room bytes m one two).report.answer ≡ answer.Refused refusal (p + 1) →
+    (line_call room bytes m one two).report.answer ≡ refused_at refusal (p + 1) →
     RunsLine room bytes m m.queue one two (line_call room bytes m one two)
 unfolding line_call whole_line
 line-placed room bytes m one two r p =
@@ -217,19 +219,20 @@ line-placed room bytes m one two r p =
   where
     by : (e : LineEnd) →
         let c = with_queue m.queue (line_end e room bytes m.state one two) in
-        c.report.answer ≡ answer.Refused r (p + 1) → RunsLine room bytes m m.queue one two c
+        c.report.answer ≡ refused_at r (p + 1) → RunsLine room bytes m m.queue one two c
     by ending.Nothing e = unfold line_end in never (cc)
     by ending.Line e = unfold line_end in ran_runs room bytes m m.queue one two
     by ending.TooLong e = unfold line_end in nowhere_never LongLine r p e
 
 module _ (room b : ℕ) (mark : Bool) (m : Module) (one two : List ℕ) where
   -- what the byte does where 11 and 9 do not refuse it
-  received_is : guard_of m (length one) (length two) ≡ Done → (e : LineEnd) → (received_to m b mark).ending ≡ e →
+  received_is : guard_of m (length one) (length two) ≡ outcome.done → (e : LineEnd) →
+      (received_to m b mark).ending ≡ e →
       byte_call room b mark m one two ≡ received_call e (received_to m b mark).queue room m one two
   unfolding byte_call byte_received
   received_is g e h = rw (guarded-done m one two (byte_received room b mark m one two) g, h)
 
-  byte_runs : guard_of m (length one) (length two) ≡ Done → (received_to m b mark).ending ≡ ending.Line →
+  byte_runs : guard_of m (length one) (length two) ≡ outcome.done → (received_to m b mark).ending ≡ ending.Line →
       RunsWaiting room b mark m one two
   byte_runs g h = rw (received_is g ending.Line h) (received_runs (received_to m b mark).queue) where
     received_runs : (q : Queue) →
@@ -241,13 +244,13 @@ module _ (room b : ℕ) (mark : Bool) (m : Module) (one two : List ℕ) where
   received-waits q =
       record { state = refl; queue = refl; first = refl; second = refl; reply = refl; answer = refl; length = refl }
 
-  byte-waits : guard_of m (length one) (length two) ≡ Done → (received_to m b mark).ending ≡ ending.Nothing →
+  byte-waits : guard_of m (length one) (length two) ≡ outcome.done → (received_to m b mark).ending ≡ ending.Nothing →
       OnlyQueued m (received_to m b mark).queue one two (byte_call room b mark m one two)
   byte-waits g h = rw (received_is g ending.Nothing h) (received-waits (received_to m b mark).queue)
 
   received-placed : (e : LineEnd) (q : Queue) (r : Refusal) (p : ℕ) →
       let c = received_call e q room m one two in
-      c.report.answer ≡ answer.Refused r (p + 1) →
+      c.report.answer ≡ refused_at r (p + 1) →
       (e ≡ ending.Line) × RunsLine room (queue.waiting_bytes q) m (queue.emptied_of q) one two c
   unfolding received_call line_end
   received-placed ending.Nothing q r p e = never (cc)
@@ -255,7 +258,7 @@ module _ (room b : ℕ) (mark : Bool) (m : Module) (one two : List ℕ) where
   received-placed ending.TooLong q r p e = nowhere_never LongLine r p e
 
   byte-placed : (refusal : Refusal) (p : ℕ) →
-      (byte_call room b mark m one two).report.answer ≡ answer.Refused refusal (p + 1) →
+      (byte_call room b mark m one two).report.answer ≡ refused_at refusal (p + 1) →
       ((received_to m b mark).ending ≡ ending.Line) × RunsWaiting room b mark m one two
   unfolding byte_call byte_received
   byte-placed r p =
@@ -268,12 +271,12 @@ module _ (room b : ℕ) (mark : Bool) (m : Module) (one two : List ℕ) where
 -- ---- events
 
 either_refused : (t : Bool) (a s : State) (r : Refusal) →
-    (cond t (done a) (refused s)).outcome ≡ Refused r → r ≡ BadEvent
+    (cond t (done a) (refused s)).outcome ≡ Err r → r ≡ BadEvent
 either_refused true a s r p = never (cc)
 either_refused false a s r p = cc
 
 event-number : (e : Event) (s : State) (one two : List ℕ) (r : Refusal) →
-    (event_of e s one two).report ≡ Refused r → r ≡ BadEvent
+    (event_of e s one two).report ≡ Err r → r ≡ BadEvent
 unfolding event_of latest_taken bits_raised sampled_in
 event-number (Latest w v) s one two r p =
     either_refused (latest_valid (pair_of w v)) (with_latest (pair_of w v) s) s r p
@@ -284,15 +287,15 @@ event-number (Raised lia errors) s one two r p =
     either_refused (may_raise lia errors) (with_registers (with_raised s.registers lia errors) s) s r p
 
 call_refused : (e : Event) (m : Module) (one two : List ℕ) (refusal : Refusal) →
-    (event_call e m one two).report ≡ Refused refusal → RefusedEvent refusal m one two (event_call e m one two)
+    (event_call e m one two).report ≡ Err refusal → RefusedEvent refusal m one two (event_call e m one two)
 unfolding event_call guarded
 call_refused e m one two r =
     let o = with_queue m.queue (event_of e m.state one two) in
     guard_by m (length one) (length two)
-    (λ g. let c = guarded Refused g o m one two in c.report ≡ Refused r → RefusedEvent r m one two c)
+    (λ g. let c = guarded Err g o m one two in c.report ≡ Err r → RefusedEvent r m one two c)
     (λ p.
     let same = event-number e m.state one two r p in
-    let u = event-refused e m.state one two (p ∙ ap Refused same) in
+    let u = event-refused e m.state one two (p ∙ ap Err same) in
     record {
       report = rw same demand.bad_event;
       after = ap (λ (s : State). record { state = s; queue = m.queue }) u.state;
@@ -308,21 +311,21 @@ call_refused e m one two r =
 
 module _ (serial port first second : ℕ) where
   start-told : (r : Refusal) → OfStart serial port first second r →
-      (start_call serial port first second).outcome ≡ Refused r
+      (start_call serial port first second).outcome ≡ Err r
   unfolding start_call
   start-told r (demand.unit_unknown u) = rw u
   start-told r (demand.traces_unfit u t) = rw (u, t)
 
   start-refused : (r : Refusal) →
       let s = start_call serial port first second in
-      (s.outcome ≡ Refused r) ↔ RefusedStart serial port first second r s
+      (s.outcome ≡ Err r) ↔ RefusedStart serial port first second r s
   unfolding start_call
   start-refused r = (by (installation_known serial port) (traces_fit first second) refl refl, λ s. start-told r s.report) where
     by : (u t : Bool) → installation_known serial port ≡ u → traces_fit first second ≡ t →
         let fixed : installation.Installation = record { serial = serial; port = port; capacity = first } in
-        let made : StartResult = record { after = fresh_module fixed; outcome = Done } in
+        let made : StartResult = record { after = fresh_module fixed; outcome = outcome.done } in
         let s = cond u (cond t made (refused_start BadTraces)) (refused_start BadStart) in
-        s.outcome ≡ Refused r → RefusedStart serial port first second r s
+        s.outcome ≡ Err r → RefusedStart serial port first second r s
     by true true u t e = never (cc)
     by true false u t e =
         let same : BadTraces ≡ r = cc in
@@ -332,34 +335,34 @@ module _ (serial port first second : ℕ) where
         rw (← same) (record { report = demand.unit_unknown u; after = refl })
 
 poll-refused : (m : Module) (refusal : Refusal) →
-    ((poll_call m).outcome ≡ Refused refusal) ↔ RefusedPoll refusal m (poll_call m)
+    ((poll_call m).outcome ≡ Err refusal) ↔ RefusedPoll refusal m (poll_call m)
 unfolding poll_call
 poll-refused m r = (by (valid_module m) refl, λ x. rw (x.outside, x.report)) where
   by : (t : Bool) → valid_module m ≡ t →
-      let report : PollResult = record { status = status_between m.state; outcome = Done } in
-      let p = cond t report (record { status = 0; outcome = Refused BadState }) in
-      p.outcome ≡ Refused r → RefusedPoll r m p
+      let report : PollResult = record { status = status_between m.state; outcome = outcome.done } in
+      let p = cond t report (record { status = 0; outcome = Err BadState }) in
+      p.outcome ≡ Err r → RefusedPoll r m p
   by true t e = never (cc)
   by false t e = record { report = cc; outside = t; status = refl }
 
 -- ---- runs of bytes
 
 module _ (room : ℕ) (bytes : List ℕ) (mark : Bool) (m : Module) (one two : List ℕ) (refusal : Refusal) (place : ℕ)
-    (e : (run_call room bytes mark m one two).report.report.answer ≡ answer.Refused refusal place) where
+    (e : (run_call room bytes mark m one two).report.report.answer ≡ refused_at refusal place) where
   -- the refusal of 11 or 9
-  refused-whole : (r : Refusal) → guard_of m (length one) (length two) ≡ Refused r →
+  refused-whole : (r : Refusal) → guard_of m (length one) (length two) ≡ Err r →
       run_call room bytes mark m one two ≡ silent (refused_run r) m one two
   unfolding run_call guarded
   refused-whole r g = rw g
 
-  run-stays : (r : Refusal) → OfRun r → guard_of m (length one) (length two) ≡ Refused r →
+  run-stays : (r : Refusal) → OfRun r → guard_of m (length one) (length two) ≡ Err r →
       RefusedRun refusal place m one two (run_call room bytes mark m one two)
   run-stays r of g =
       let is : run_call room bytes mark m one two ≡ silent (refused_run r) m one two = refused-whole r g in
-      let told : answer.Refused r 0 ≡ answer.Refused refusal place =
+      let told : refused_at r 0 ≡ refused_at refusal place =
       sym (ap (λ (c : After Module RunReport). c.report.report.answer) is) ∙ e in
-      let same : r ≡ refusal = cc in
-      let nowhere : place ≡ 0 = cc in
+      let same : r ≡ refusal = told_refusal told in
+      let nowhere : place ≡ 0 = sym (told_place told) in
       subst (RefusedRun refusal place m one two) (sym is)
       (record {
         report = rw (← same) of;

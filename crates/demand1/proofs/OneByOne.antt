@@ -9,16 +9,15 @@ use mathlib.Core.List.{List, [], ◌∷◌, ◌++◌, append-nil}
 use lib.Bits.{bit_or}
 use lib.ListN.{length, get_or}
 use borrow.Author.Tests.{eqb-true, eqb-false}
+use Rattle.std.specs.Prelude.{Ok, Err}
 use Rattle.laws.proofs.Tests.{never}
-use Rattle.outcome.specs.Code.{code_of}
+use Rattle.outcome.specs.Code.{code_of, Outcome, done}
 use Rattle.outcome.specs.declared.Refusal.{Refusal}
 use Rattle.outcome.specs.declared.Refusal.TheVariants.{Malformed, NoRoom}
 use Rattle.outcome.proofs.Every.{every_refusal, by_number, same_refusal}
-use Rattle.outcome.specs.declared.Outcome.{Outcome}
-use Rattle.outcome.specs.declared.Outcome.TheVariants.{Done, Refused}
-use Rattle.outcome.specs.declared.Answer.{Answer}
-use Rattle.outcome.specs.declared.Answer.TheVariants as answer
-use Rattle.outcome.specs.Answer.{is_no_room, drops, first_of}
+use Rattle.outcome.specs.Answer.{is_no_room, drops, first_of, Answer, refused_at}
+use Rattle.outcome.proofs.Placed.{told_refusal, told_place}
+use Rattle.outcome.specs.Answer as answer
 use Rattle.command.specs.Parsed.{parsed_of}
 use Rattle.status.proofs.Bits.{bit_lt, bit-or, power_here, power_other}
 use Rattle.state.specs.State.{with_error_bit}
@@ -84,12 +83,12 @@ refused-command r n s one two =
     }
 
 pub command-refused : (room : ℕ) (waiting : Bool) (text : List ℕ) (s : State) (one two : List ℕ) (refusal : Refusal) →
-    (command_of room waiting (parsed_of text) s one two).report ≡ Refused refusal →
+    (command_of room waiting (parsed_of text) s one two).report ≡ Err refusal →
     RefusedCommand refusal s one two (command_of room waiting (parsed_of text) s one two)
 unfolding done_by
 command-refused room waiting text s one two refusal =
     command_by room waiting s one two
-    (λ (e : Effect). e.report ≡ Refused refusal → RefusedCommand refusal s one two e)
+    (λ (e : Effect). e.report ≡ Err refusal → RefusedCommand refusal s one two e)
     (λ p. never (cc))
     (λ r n p. let same : r ≡ refusal = cc in rw (← same) (refused-command r n s one two))
     (λ kind k a p. never (cc))
@@ -97,10 +96,10 @@ command-refused room waiting text s one two refusal =
 
 -- ---- one command of a line
 
-first_done : (a : Answer) (n : ℕ) → first_of a Done n ≡ a
+first_done : (a : Answer) (n : ℕ) → first_of a done n ≡ a
 unfolding first_of
-first_done answer.Passed n = refl
-first_done (answer.Refused r place) n = refl
+first_done (Ok _) n = refl
+first_done (Err e) n = refl
 
 module _ (room : ℕ) (text : List ℕ) (l : Line) where
   -- whether the rest is dropped goes by the outcome
@@ -119,7 +118,7 @@ module _ (room : ℕ) (text : List ℕ) (l : Line) where
   unfolding after_command after_of
   answer_by o p = ap (λ x. first_of l.report.answer x (l.report.count + 1)) p
 
-  pub step-refused : (refusal : Refusal) → (effect_in room text l).report ≡ Refused refusal →
+  pub step-refused : (refusal : Refusal) → (effect_in room text l).report ≡ Err refusal →
       RefusedStep refusal room text l
   unfolding after_command after_of drops
   step-refused refusal p =
@@ -133,11 +132,11 @@ module _ (room : ℕ) (text : List ℕ) (l : Line) where
         first = c.first;
         second = c.second;
         reply = ap (λ (b : List ℕ). l.out ++ b) c.reply ∙ append-nil l.out;
-        answer = answer_by (Refused refusal) p;
-        next = next_by (Refused refusal) p;
+        answer = answer_by (Err refusal) p;
+        next = next_by (Err refusal) p;
       }
 
-  step-accepted : (effect_in room text l).report ≡ Done → AcceptedStep room text l
+  step-accepted : (effect_in room text l).report ≡ done → AcceptedStep room text l
   unfolding after_command after_of drops
   step-accepted p =
       record {
@@ -146,16 +145,16 @@ module _ (room : ℕ) (text : List ℕ) (l : Line) where
         first = refl;
         second = refl;
         reply = refl;
-        answer = answer_by Done p ∙ first_done l.report.answer (l.report.count + 1);
-        next = next_by Done p;
+        answer = answer_by done p ∙ first_done l.report.answer (l.report.count + 1);
+        next = next_by done p;
       }
 
   -- a command of a line is accepted or refused
   step_by_lem : (P : Type 0) → (AcceptedStep room text l → P) → ((r : Refusal) → RefusedStep r room text l → P) → P
   step_by_lem P takes refuses = by (effect_in room text l).report refl where
     by : (o : Outcome) → (effect_in room text l).report ≡ o → P
-    by Done p = takes (step-accepted p)
-    by (Refused r) p = refuses r (step-refused r p)
+    by (Ok _) p = takes (step-accepted p)
+    by (Err r) p = refuses r (step-refused r p)
 
 -- only 4 drops the rest of the line
 no_room_lem : (r : Refusal) → is_no_room r ≡ true → r ≡ NoRoom
@@ -192,16 +191,16 @@ module _ (room : ℕ) (P : List (List ℕ) → Line → Line → Type 0)
         run-refused r a true e =
             let b : RefusedStep NoRoom room text l = rw (no_room_lem r e) at a in
             subst (P (text ∷ more) l) (sym (b.next more))
-            (drop text more l b (dropped_by room text l (Refused NoRoom) b.report))
+            (drop text more l b (dropped_by room text l (Err NoRoom) b.report))
         run-refused r a false e =
             run_goes (demand.refused r a (room_left r e))
-            (dropped_by room text l (Refused r) a.report ∙ e) (a.next more ∙ rw e)
+            (dropped_by room text l (Err r) a.report ∙ e) (a.next more ∙ rw e)
 
         run-next : P (text ∷ more) l (run_all room (text ∷ more) l)
         unfolding drops
         run-next =
             step_by_lem room text l (P (text ∷ more) l (run_all room (text ∷ more) l))
-            (λ a. run_goes (demand.accepted a) (dropped_by room text l Done a.report) (a.next more))
+            (λ a. run_goes (demand.accepted a) (dropped_by room text l done a.report) (a.next more))
             (λ r a. run-refused r a (is_no_room r) refl)
 
     run_by : (texts : List (List ℕ)) (l : Line) → P texts l (run_all room texts l)
@@ -238,12 +237,12 @@ commands_are room =
 -- a refusal that the line has stays its answer; a line without one passes where each command is accepted, and else the
 -- first refused one is its answer
 pub record Answering (room : ℕ) (texts : List (List ℕ)) (l end : Line) : Type 0 where
-  pub kept : (r : Refusal) (place : ℕ) → l.report.answer ≡ answer.Refused r place →
-      end.report.answer ≡ answer.Refused r place
-  pub passed : l.report.answer ≡ answer.Passed → end.report.answer ≡ answer.Passed →
+  pub kept : (r : Refusal) (place : ℕ) → l.report.answer ≡ refused_at r place →
+      end.report.answer ≡ refused_at r place
+  pub passed : l.report.answer ≡ answer.passed → end.report.answer ≡ answer.passed →
       OneByOne (AcceptedStep room) room texts l end
-  pub placed : l.report.answer ≡ answer.Passed → (r : Refusal) (place : ℕ) →
-      end.report.answer ≡ answer.Refused r place →
+  pub placed : l.report.answer ≡ answer.passed → (r : Refusal) (place : ℕ) →
+      end.report.answer ≡ refused_at r place →
       (p : ℕ) × (place ≡ l.report.count + p) × FirstRefusedCommand r p room texts l
 
 answering_ends : (room : ℕ) (l : Line) → Answering room [] l l
@@ -287,15 +286,15 @@ module _ (room : ℕ) (text : List ℕ) (more : List (List ℕ)) (l end : Line) 
 
   -- after a refused command: what the line answers then stays its answer
   module _ (r : Refusal) (a : RefusedStep r room text l)
-      (stays : (q : Refusal) (place : ℕ) → (after_command room text l).report.answer ≡ answer.Refused q place →
-      end.report.answer ≡ answer.Refused q place)
+      (stays : (q : Refusal) (place : ℕ) → (after_command room text l).report.answer ≡ refused_at q place →
+      end.report.answer ≡ refused_at q place)
     where
-      told_here : l.report.answer ≡ answer.Passed → end.report.answer ≡ answer.Refused r (l.report.count + 1)
+      told_here : l.report.answer ≡ answer.passed → end.report.answer ≡ refused_at r (l.report.count + 1)
       unfolding first_of
       told_here e = stays r (l.report.count + 1) (a.answer ∙ rw e)
 
-      kept_here : (q : Refusal) (place : ℕ) → l.report.answer ≡ answer.Refused q place →
-          end.report.answer ≡ answer.Refused q place
+      kept_here : (q : Refusal) (place : ℕ) → l.report.answer ≡ refused_at q place →
+          end.report.answer ≡ refused_at q place
       unfolding first_of
       kept_here q place e = stays q place (a.answer ∙ rw e)
 
@@ -305,8 +304,9 @@ module _ (room : ℕ) (text : List ℕ) (more : List (List ℕ)) (l end : Line) 
             kept = kept_here;
             passed = λ e f. never (cc (told_here e));
             placed = λ e q place f.
-                let same : r ≡ q = cc (told_here e) in
-                let at : place ≡ l.report.count + 1 = cc (told_here e) in (
+                let told : refused_at r (l.report.count + 1) ≡ refused_at q place = sym (told_here e) ∙ f in
+                let same : r ≡ q = told_refusal told in
+                let at : place ≡ l.report.count + 1 = sym (told_place told) in (
                   1,
                   at,
                   record {

@@ -1,12 +1,12 @@
 -- Demand 1: what is refused changes nothing, save the error bit laid down for it (§1.1). This holds of each command of
 -- a line, and of lines, bytes, events, starts and polls, so no caller has to test anything beforehand. The statement is
 -- RefusedChangesNothing, at the end. Refusals: §12.1, §12.2, §12.3, §12.4, §12.5, §12.6, §12.9, §12.10 and §12.11.
-use Rattle.std.specs.Prelude.{ℕ, ◌+◌, ◌-◌, ◌≤◌, Bool, true, false, cond, not}
+use Rattle.std.specs.Prelude.{ℕ, ◌+◌, ◌-◌, ◌≤◌, Bool, true, false, cond, not, Err}
 use Rattle.std.specs.Prelude.{◌≢◌, ◌↔◌, ◌≡◌, List, [], ◌∷◌, ◌++◌, length}
 use Rattle.outcome.specs.declared.Refusal.{Refusal}
 use Rattle.outcome.specs.declared.Refusal.TheVariants.{Malformed, OutOfRange, NotAllowed, NoRoom, LongLine}
 use Rattle.outcome.specs.declared.Refusal.TheVariants.{BadEvent, BadTraces, BadStart, BadState}
-use Rattle.outcome.specs.declared.Outcome.TheVariants.{Done, Refused}
+use Rattle.outcome.specs.Code.{done}
 use Rattle.status.specs.Bits.{bit_of}
 use Rattle.line_text.specs.Texts.{texts_of}
 use Rattle.command.specs.Parsed.{parsed_of}
@@ -14,10 +14,10 @@ use Rattle.state.specs.State.{with_error_bit}
 use Rattle.state.specs.declared.State.{State}
 use Rattle.reply_buffer.specs.After.{After}
 use Rattle.line.specs.Perform.{Effect, command_of}
-use Rattle.outcome.specs.Answer.{is_no_room, first_of}
+use Rattle.outcome.specs.Answer.{is_no_room, first_of, refused_at}
+use Rattle.outcome.specs.Answer as answer
 use Rattle.line.specs.Line.{Line, waits, after_command, run_all, start_line}
 use Rattle.event.specs.declared.Event.{Event}
-use Rattle.outcome.specs.declared.Answer.TheVariants as answer
 use Rattle.queue.specs.Queue.{line_limit, emptied_of, discarding_is, is_marked, waiting_bytes, Received, received_of}
 use Rattle.queue.specs.declared.Queue.{Queue}
 use Rattle.queue.specs.declared.LineEnd.TheVariants as ending
@@ -80,7 +80,7 @@ effect_in room text l = command_of (room - length l.out) (waits l.out) (parsed_o
 -- §2.7: a refused command of a line: the line's reply bytes stay as they are, its answer is this refusal where it had
 -- none before, and the commands after it still have their turn, save under 4 (§12.4)
 pub record RefusedStep (refusal : Refusal) (room : ℕ) (text : List ℕ) (l : Line) : Type 0 where
-  pub report : (effect_in room text l).report ≡ Refused refusal
+  pub report : (effect_in room text l).report ≡ Err refusal
   pub bit : ℕ
   pub laid : OfCommand refusal bit
   pub marked : Marked refusal bit l.after (after_command room text l).after
@@ -88,7 +88,7 @@ pub record RefusedStep (refusal : Refusal) (room : ℕ) (text : List ℕ) (l : L
   pub second : (after_command room text l).two ≡ l.two
   pub reply : (after_command room text l).out ≡ l.out
   pub answer : (after_command room text l).report.answer
-      ≡ first_of l.report.answer (Refused refusal) (l.report.count + 1)
+      ≡ first_of l.report.answer (Err refusal) (l.report.count + 1)
   pub next : (more : List (List ℕ)) →
       let next = after_command room text l in
       run_all room (text ∷ more) l ≡ cond (is_no_room refusal) next (run_all room more next)
@@ -96,7 +96,7 @@ pub record RefusedStep (refusal : Refusal) (room : ℕ) (text : List ℕ) (l : L
 -- §2.6: an accepted command of a line: the state and the traces that it leaves are the line's, its reply comes after
 -- the bytes before it (§12.13), and the commands after it have their turn from there
 pub record AcceptedStep (room : ℕ) (text : List ℕ) (l : Line) : Type 0 where
-  pub report : (effect_in room text l).report ≡ Done
+  pub report : (effect_in room text l).report ≡ done
   pub state : (after_command room text l).after ≡ (effect_in room text l).after
   pub first : (after_command room text l).one ≡ (effect_in room text l).one
   pub second : (after_command room text l).two ≡ (effect_in room text l).two
@@ -160,9 +160,9 @@ pub record RunsLine (room : ℕ) (bytes : List ℕ) (m : Module) (q : Queue) (on
   pub second : c.two ≡ end.two
   pub reply : c.out ≡ end.out
   pub report : c.report.answer ≡ end.report.answer
-  pub passed : c.report.answer ≡ answer.Passed →
+  pub passed : c.report.answer ≡ answer.passed →
       OneByOne (AcceptedStep room) room (texts_of bytes) (start_line m.state one two) end
-  pub placed : (refusal : Refusal) (place : ℕ) → c.report.answer ≡ answer.Refused refusal place →
+  pub placed : (refusal : Refusal) (place : ℕ) → c.report.answer ≡ refused_at refusal place →
       FirstRefusedCommand refusal place room (texts_of bytes) (start_line m.state one two)
 
 -- §2.1 and §2.3: what a byte does to the module's queue
@@ -182,7 +182,7 @@ pub record OnlyQueued (m : Module) (q : Queue) (one two : List ℕ) (c : Call) :
   pub first : c.one ≡ one
   pub second : c.two ≡ two
   pub reply : c.out ≡ []
-  pub answer : c.report.answer ≡ answer.Passed
+  pub answer : c.report.answer ≡ answer.passed
   pub length : c.report.length ≡ 0
 
 -- ---- a call that is refused before any command, at place 0
@@ -284,57 +284,57 @@ pub record RefusedPoll (refusal : Refusal) (m : Module) (p : PollResult) : Type 
 pub record RefusedChangesNothing : Type 0 where
   -- §12.1, §12.2, §12.3 and §12.4: a command by itself ..
   pub command : (room : ℕ) (waiting : Bool) (text : List ℕ) (s : State) (one two : List ℕ) (refusal : Refusal) →
-      (command_of room waiting (parsed_of text) s one two).report ≡ Refused refusal →
+      (command_of room waiting (parsed_of text) s one two).report ≡ Err refusal →
       RefusedCommand refusal s one two (command_of room waiting (parsed_of text) s one two)
   -- §2.7: .. and as the next one of any line
   pub step : (room : ℕ) (text : List ℕ) (l : Line) (refusal : Refusal) →
-      (effect_in room text l).report ≡ Refused refusal → RefusedStep refusal room text l
+      (effect_in room text l).report ≡ Err refusal → RefusedStep refusal room text l
   -- §2.4, §12.5, §12.9 and §12.11: a line handed over whole, which uses no queue: refused before any command;
   pub line : (room : ℕ) (bytes : List ℕ) (m : Module) (one two : List ℕ) (refusal : Refusal) →
-      (line_call room bytes m one two).report.answer ≡ answer.Refused refusal 0 →
+      (line_call room bytes m one two).report.answer ≡ refused_at refusal 0 →
       RefusedCall m m.queue one two (line_call room bytes m one two) refusal
   -- §12.12: run where 11, 9 and 5 do not refuse it;
   pub line_runs : (room : ℕ) (bytes : List ℕ) (m : Module) (one two : List ℕ) →
-      guard_of m (length one) (length two) ≡ Done → length bytes ≤ line_limit →
+      guard_of m (length one) (length two) ≡ done → length bytes ≤ line_limit →
       RunsLine room bytes m m.queue one two (line_call room bytes m one two)
   -- §1.5: and where it answers a place other than 0 it was run
   pub line-placed : (room : ℕ) (bytes : List ℕ) (m : Module) (one two : List ℕ) (refusal : Refusal) (p : ℕ) →
-      (line_call room bytes m one two).report.answer ≡ answer.Refused refusal (p + 1) →
+      (line_call room bytes m one two).report.answer ≡ refused_at refusal (p + 1) →
       RunsLine room bytes m m.queue one two (line_call room bytes m one two)
   -- §2.3, §12.5, §12.9 and §12.11: a byte: refused before any command;
   pub byte : (room b : ℕ) (mark : Bool) (m : Module) (one two : List ℕ) (refusal : Refusal) →
-      (byte_call room b mark m one two).report.answer ≡ answer.Refused refusal 0 →
+      (byte_call room b mark m one two).report.answer ≡ refused_at refusal 0 →
       RefusedCall m (emptied_at m.queue (is_marked m.state.installation.port mark)) one two
       (byte_call room b mark m one two) refusal
   -- §2.2: the end of a line, which runs;
   pub byte_runs : (room b : ℕ) (mark : Bool) (m : Module) (one two : List ℕ) →
-      guard_of m (length one) (length two) ≡ Done → (received_to m b mark).ending ≡ ending.Line →
+      guard_of m (length one) (length two) ≡ done → (received_to m b mark).ending ≡ ending.Line →
       RunsWaiting room b mark m one two
   -- §1.5: no end of a line;
   pub byte-waits : (room b : ℕ) (mark : Bool) (m : Module) (one two : List ℕ) →
-      guard_of m (length one) (length two) ≡ Done → (received_to m b mark).ending ≡ ending.Nothing →
+      guard_of m (length one) (length two) ≡ done → (received_to m b mark).ending ≡ ending.Nothing →
       OnlyQueued m (received_to m b mark).queue one two (byte_call room b mark m one two)
   -- §1.5: and where it answers a place other than 0 it ended a line, which ran
   pub byte-placed : (room b : ℕ) (mark : Bool) (m : Module) (one two : List ℕ) (refusal : Refusal) (p : ℕ) →
-      (byte_call room b mark m one two).report.answer ≡ answer.Refused refusal (p + 1) →
+      (byte_call room b mark m one two).report.answer ≡ refused_at refusal (p + 1) →
       ((received_to m b mark).ending ≡ ending.Line) × RunsWaiting room b mark m one two
   -- §1.6: a run of bytes: refused as a whole, wherever it reports a refusal at line 0;
   pub run : (room : ℕ) (bytes : List ℕ) (mark : Bool) (m : Module) (one two : List ℕ) (refusal : Refusal) (place : ℕ) →
-      (run_call room bytes mark m one two).report.report.answer ≡ answer.Refused refusal place →
+      (run_call room bytes mark m one two).report.report.answer ≡ refused_at refusal place →
       (run_call room bytes mark m one two).report.line ≡ 0 →
       RefusedRun refusal place m one two (run_call room bytes mark m one two)
   -- §2.9: and else each byte that it takes is a byte's call, of which the above is said
   pub run-bytes : (room : ℕ) (bytes : List ℕ) (mark : Bool) (m : Module) (one two : List ℕ) →
-      length m.queue.bytes ≡ line_limit → guard_of m (length one) (length two) ≡ Done →
+      length m.queue.bytes ≡ line_limit → guard_of m (length one) (length two) ≡ done →
       SameAsSingly room bytes mark m one two (run_call room bytes mark m one two)
   -- §12.6, §12.9 and §12.11: an event
   pub event : (event : Event) (m : Module) (one two : List ℕ) (refusal : Refusal) →
-      (event_call event m one two).report ≡ Refused refusal →
+      (event_call event m one two).report ≡ Err refusal →
       RefusedEvent refusal m one two (event_call event m one two)
   -- §1.3, §12.9 and §12.10: a start, refused exactly where OfStart says
   pub start : (serial port first second : ℕ) (refusal : Refusal) →
-      ((start_call serial port first second).outcome ≡ Refused refusal)
+      ((start_call serial port first second).outcome ≡ Err refusal)
       ↔ RefusedStart serial port first second refusal (start_call serial port first second)
   -- §10.7 and §12.11: a poll, refused exactly where RefusedPoll says
   pub poll : (m : Module) (refusal : Refusal) →
-      ((poll_call m).outcome ≡ Refused refusal) ↔ RefusedPoll refusal m (poll_call m)
+      ((poll_call m).outcome ≡ Err refusal) ↔ RefusedPoll refusal m (poll_call m)

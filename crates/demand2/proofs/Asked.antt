@@ -6,9 +6,8 @@ use mathlib.Core.List.{List}
 use lib.ListN.{length}
 use borrow.Author.Tests.{le-leb}
 use Rattle.outcome.specs.declared.Refusal.TheVariants.{NotAllowed}
-use Rattle.outcome.specs.declared.Outcome.TheVariants.{Done}
-use Rattle.outcome.specs.declared.Answer.TheVariants.{Refused}
-use Rattle.outcome.specs.Answer.{first_of, drops}
+use Rattle.outcome.specs.Code.{done}
+use Rattle.outcome.specs.Answer.{first_of, drops, refused_at}
 use Rattle.command.specs.declared.QueryArgument.{QueryArgument}
 use Rattle.command.specs.declared.Kind.TheVariants.{Query}
 use Rattle.state.specs.Storing.{stored_in}
@@ -25,7 +24,7 @@ use Rattle.invariant.proofs.OneCommand.{Says, said_call}
 use Rattle.demand2.specs.Demand2.{answered}
 
 module _ (text : List ℕ) (q : QueryArgument) (says : Says text (Query q)) (room : ℕ) (m : Module) (one two : List ℕ)
-    (passes : guard_of m (length one) (length two) ≡ Done)
+    (passes : guard_of m (length one) (length two) ≡ done)
   where
     -- a query that clears nothing, with room for its reply
     pub asked_call : (out : List ℕ) → state_after (Query q) m.state ≡ m.state →
@@ -37,6 +36,6 @@ module _ (text : List ℕ) (q : QueryArgument) (says : Says text (Query q)) (roo
 
     -- a query that 3 refuses
     pub asked-refused : query_allowed m.state.acquisition q ≡ false →
-        (line_call room text m one two).report.answer ≡ Refused NotAllowed 1
+        (line_call room text m one two).report.answer ≡ refused_at NotAllowed 1
     unfolding performed is_allowed after_of first_of
     asked-refused refused = rw (said_call text (Query q) says room m one two passes, refused)

@@ -6,6 +6,7 @@ use mathlib.Core.List.{List, [], ◌∷◌, ◌++◌}
 use native.Mathlib.Omega.{arith}
 use lib.ListN.{length, length-append}
 use borrow.Author.Tests.{le-leb}
+use Rattle.std.specs.Prelude.{Some}
 use Rattle.laws.proofs.Tests.{and_first}
 use Rattle.mnemonic.specs.Names.{meaning_of}
 use Rattle.mnemonic.specs.declared.Register.{Register}
@@ -14,7 +15,7 @@ use Rattle.settings.specs.Table.{entries, freq, next_entry, value_of}
 use Rattle.settings.specs.Frequency.{is_internal}
 use Rattle.status.specs.Status.{enable_of}
 use Rattle.outcome.specs.declared.Refusal.TheVariants.{NotAllowed}
-use Rattle.outcome.specs.declared.Outcome.TheVariants.{Done}
+use Rattle.outcome.specs.Code.{done}
 use Rattle.outcome.specs.Answer.{first_of, is_no_room, drops}
 use Rattle.command.specs.Arguments.{comma}
 use Rattle.command.specs.declared.SetArgument.{SetArgument}
@@ -87,7 +88,7 @@ module _ (room : ℕ) (s : State) (one two : List ℕ) where
   -- a set, by whether the state allows it
   set-performed : (a : SetArgument) → performed room false (Set a) s one two
       ≡ cond (set_allowed s.settings s.acquisition a)
-      (silent Done (state_after (Set a) s) one two)
+      (silent done (state_after (Set a) s) one two)
       (refused_by NotAllowed s one two)
   unfolding performed is_allowed reply_of fits_in done_by storage_after stored_in
   set-performed a = rw (le-leb 0 room (omega arith)) refl
@@ -130,7 +131,7 @@ module _ (s : State) (ok : valid_state s ≡ true) (fits : StateFits s) where
   unfolding text_of
   enable-text which = refl
 
-  back_alone : (name : List ℕ) (entry : ℕ) → meaning_of name ≡ Setting entry →
+  back_alone : (name : List ℕ) (entry : ℕ) → meaning_of name ≡ Some (Setting entry) →
       Internal (plainly name (at_entry entry)) s →
       Trip (plainly name (at_entry entry)) s
   back_alone name entry e internal =
@@ -150,7 +151,7 @@ module _ (s : State) (ok : valid_state s ≡ true) (fits : StateFits s) where
         still = value_same s ok entry;
       }
 
-  back-enable : (name : List ℕ) (which : Register) → meaning_of name ≡ Enable which →
+  back-enable : (name : List ℕ) (which : Register) → meaning_of name ≡ Some (Enable which) →
       Trip (plainly name (at_enable which)) s
   unfolding set_allowed
   back-enable name which e =
@@ -171,7 +172,8 @@ module _ (s : State) (ok : valid_state s ≡ true) (fits : StateFits s) where
       }
 
   module _ (name : List ℕ) (base channels i : ℕ) (some : 1 ≤ i) (most : i ≤ channels) where
-    back-channel : meaning_of name ≡ Channel base channels → Trip (channelled name i (at_entry (base + (i - 1)) ∷ [])) s
+    back-channel : meaning_of name ≡ Some (Channel base channels) →
+        Trip (channelled name i (at_entry (base + (i - 1)) ∷ [])) s
     back-channel e =
         let n = name_of_channel name base channels i some most e in
         let at = base + (i - 1) in
@@ -192,7 +194,7 @@ module _ (s : State) (ok : valid_state s ≡ true) (fits : StateFits s) where
           still = value_same s ok at;
         }
 
-    back-pair : meaning_of name ≡ ChannelPair base channels →
+    back-pair : meaning_of name ≡ Some (ChannelPair base channels) →
         Trip (channelled name i (at_entry (base + 2 * (i - 1)) ∷ at_entry (next_entry (base + 2 * (i - 1))) ∷ [])) s
     unfolding set_allowed
     back-pair e =
@@ -252,7 +254,7 @@ module _ (a : Address) (m : Module) (one two : List ℕ) (ready : Ready m one tw
           SentBack a.holds (values_at m.state a.holds) t first second
           (with_queue t.queue (line_ran (after_of (start_line t.state first second)
           (cond d
-          (silent Done (state_after (Set trip.set) t.state) first second)
+          (silent done (state_after (Set trip.set) t.state) first second)
           (refused_by NotAllowed t.state first second)))))
       by true e = unfold after_of first_of drops in taken _ refl
           (trip.same t.state other.fits.state (ready_valid t first second other) e) (trip.others t.state)

@@ -6,10 +6,11 @@ use mathlib.Core.List.{List, [], ◌∷◌, Memᴰ}
 use native.Mathlib.Omega.{arith}
 use lib.Dec.{leb, ltb, eqb}
 use borrow.Author.Tests.{ltb-true, leb-true, eqb-true, eqb-false}
+use Rattle.std.specs.Prelude.{Some}
 use Rattle.mnemonic.specs.Names.{commands, meaning_in, meaning_of}
 use Rattle.mnemonic.specs.declared.Meaning.{Meaning}
 use Rattle.mnemonic.specs.declared.Meaning.TheVariants.{Setting, Channel, ChannelPair, Enable, Status, Identity}
-use Rattle.mnemonic.specs.declared.Meaning.TheVariants.{Points, Trace, Act, Unknown}
+use Rattle.mnemonic.specs.declared.Meaning.TheVariants.{Points, Trace, Act}
 use Rattle.mnemonic.proofs.Rule.{some, name_found}
 use Rattle.settings.specs.Table.{entries, next_entry}
 use Rattle.settings.specs.Valid.{every}
@@ -32,7 +33,6 @@ covers entry Identity = false
 covers entry Points = false
 covers entry (Trace form) = false
 covers entry (Act a) = false
-covers entry Unknown = false
 
 all_covered : every (λ entry. some (covers entry) commands) entries ≡ true
 unfolding every meaning_in
@@ -51,7 +51,7 @@ module _ (entry : ℕ) (inside : entry < entries) (name : List ℕ) where
   Finding : Type 0
   Finding = (a : Address) × IsSetting a × Memᴰ (at_entry entry) a.holds
 
-  found_pair : (base channels : ℕ) → meaning_of name ≡ ChannelPair base channels →
+  found_pair : (base channels : ℕ) → meaning_of name ≡ Some (ChannelPair base channels) →
       Within base (base + 2 * channels) entry → Finding
   unfolding Finding
   found_pair base channels e w = (
@@ -74,7 +74,7 @@ module _ (entry : ℕ) (inside : entry < entries) (name : List ℕ) where
           let next : entry ≡ at + 1 = omega arith in
           Memᴰ.tail (Memᴰ.head (ap at_entry (next ∙ sym (next_is at (omega arith)))))
 
-  found_in_lem : (m : Meaning) → meaning_of name ≡ m → covers entry m ≡ true → Finding
+  found_in_lem : (m : Meaning) → meaning_of name ≡ Some m → covers entry m ≡ true → Finding
   unfolding Finding
   found_in_lem (Setting at) e h =
       (plainly name (at_entry at), alone name at e, Memᴰ.head (ap at_entry (eqb-true entry at h)))
@@ -93,7 +93,6 @@ module _ (entry : ℕ) (inside : entry < entries) (name : List ℕ) where
   found_in_lem Points e h = absurd (true≢false (sym h))
   found_in_lem (Trace form) e h = absurd (true≢false (sym h))
   found_in_lem (Act a) e h = absurd (true≢false (sym h))
-  found_in_lem Unknown e h = absurd (true≢false (sym h))
 
 pub every_entry : EveryEntry
 unfolding Finding
@@ -101,4 +100,4 @@ every_entry entry h =
     let n =
     name_found (covers entry) commands (every_at (λ e. some (covers e) commands) entries all_covered entry h)
     in
-    found_in_lem entry h n.0 (meaning_of n.0) refl n.1
+    found_in_lem entry h n.0 n.1 n.2 n.3

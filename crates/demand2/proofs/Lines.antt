@@ -7,15 +7,12 @@ use mathlib.Core.List.{List, [], ◌∷◌, ◌++◌}
 use lib.Dec.{eqb}
 use borrow.Author.Tests.{eq-eqb}
 use lib.ListN.{length, length-append}
+use Rattle.std.specs.Prelude.{Ok, Err}
 use Rattle.split.specs.Divide.{on_head, parts}
 use Rattle.line_text.specs.Clean.{is_dropped, capital, cleaned}
 use Rattle.line_text.specs.Texts.{semicolon, texts_of}
-use Rattle.outcome.specs.declared.Outcome.{Outcome}
-use Rattle.outcome.specs.declared.Outcome.TheVariants as outcome
-use Rattle.outcome.specs.declared.Outcome.TheVariants.{Done}
-use Rattle.outcome.specs.declared.Answer.{Answer}
-use Rattle.outcome.specs.declared.Answer.TheVariants.{Passed, Refused}
-use Rattle.outcome.specs.Answer.{first_of, drops}
+use Rattle.outcome.specs.Code.{Outcome, done}
+use Rattle.outcome.specs.Answer.{first_of, drops, Answer, passed, refused_at}
 use Rattle.command.specs.Parsed.{parsed_of}
 use Rattle.line.specs.Perform.{command_of}
 use Rattle.line.specs.Line.{Line, waits, start_line, after_of, after_command, run_all, line_of}
@@ -111,9 +108,9 @@ module _ (room : ℕ) where
   first_further : (n : ℕ) (a : Answer) (o : Outcome) (count : ℕ) →
       first_of (later_answer n a) o (count + n + 1) ≡ later_answer n (first_of a o (count + 1))
   unfolding first_of
-  first_further n Passed outcome.Done count = refl
-  first_further n Passed (outcome.Refused r) count = ap (λ p. Refused r p) (omega arith)
-  first_further n (Refused r place) o count = refl
+  first_further n (Ok _) (Ok _) count = refl
+  first_further n (Ok _) (Err r) count = ap (λ p. refused_at r p) (omega arith)
+  first_further n (Err e) o count = refl
 
   step_further : (n : ℕ) (t : List ℕ) (l : Line) → after_command room t (further n l) ≡ further n (after_command room t l)
   unfolding after_command after_of
@@ -134,13 +131,13 @@ module _ (room : ℕ) where
         by false e = e
 
   -- a line that is answered 0 was run whole
-  first-passed : (a : Answer) (o : Outcome) (n : ℕ) → first_of a o n ≡ Passed → drops o ≡ true → ⊥
+  first-passed : (a : Answer) (o : Outcome) (n : ℕ) → first_of a o n ≡ passed → drops o ≡ true → ⊥
   unfolding first_of drops
-  first-passed Passed outcome.Done n e d = false≢true d
-  first-passed Passed (outcome.Refused r) n e d = let z : ◌≡◌ {A = ℕ} 0 1 = cc in omega arith
-  first-passed (Refused r place) o n e d = let z : ◌≡◌ {A = ℕ} 0 1 = cc in omega arith
+  first-passed (Ok _) (Ok _) n e d = false≢true d
+  first-passed (Ok _) (Err r) n e d = let z : ◌≡◌ {A = ℕ} 0 1 = cc in omega arith
+  first-passed (Err x) o n e d = let z : ◌≡◌ {A = ℕ} 0 1 = cc in omega arith
 
-  step-passed : (t : List ℕ) (l : Line) → (after_command room t l).report.answer ≡ Passed →
+  step-passed : (t : List ℕ) (l : Line) → (after_command room t l).report.answer ≡ passed →
       (after_command room t l).report.dropped ≡ true → ⊥
   unfolding after_command after_of
   step-passed t l e d = first-passed l.report.answer _ (l.report.count + 1) e d
@@ -153,7 +150,7 @@ module _ (room : ℕ) where
     passes : r.report.dropped ≡ false
     count : r.report.count ≡ l.report.count + length ts
 
-  run-whole : (ts : List (List ℕ)) (l : Line) → l.report.dropped ≡ false → (run_all room ts l).report.answer ≡ Passed →
+  run-whole : (ts : List (List ℕ)) (l : Line) → l.report.dropped ≡ false → (run_all room ts l).report.answer ≡ passed →
       Whole ts l (run_all room ts l)
   unfolding run_all
   run-whole [] l passes = λ e. record { passes = passes; count = omega arith }
@@ -162,11 +159,11 @@ module _ (room : ℕ) where
       (run-whole ts (after_command room t l))
     where
       by : (next : Line) (d : Bool) → next.report.dropped ≡ d →
-          (next.report.answer ≡ Passed → next.report.dropped ≡ true → ⊥) →
+          (next.report.answer ≡ passed → next.report.dropped ≡ true → ⊥) →
           next.report.count ≡ l.report.count + 1 →
-          (next.report.dropped ≡ false → (run_all room ts next).report.answer ≡ Passed →
+          (next.report.dropped ≡ false → (run_all room ts next).report.answer ≡ passed →
           Whole ts next (run_all room ts next)) →
-          (cond d next (run_all room ts next)).report.answer ≡ Passed →
+          (cond d next (run_all room ts next)).report.answer ≡ passed →
           Whole (t ∷ ts) l (cond d next (run_all room ts next))
       by next true z p c ih e = absurd (p e z)
       by next false z p c ih e =
@@ -174,7 +171,7 @@ module _ (room : ℕ) where
           record { passes = w.passes; count = omega (arith, w.count) }
 
   -- a line that has run whole and silently is a new one further on
-  begun : (l : Line) (n : ℕ) → l.out ≡ [] → l.report.answer ≡ Passed → l.report.count ≡ 0 + n →
+  begun : (l : Line) (n : ℕ) → l.out ≡ [] → l.report.answer ≡ passed → l.report.count ≡ 0 + n →
       l.report.dropped ≡ false →
       l ≡ further n (start_line l.after l.one l.two)
   begun l n o a c d =
@@ -188,7 +185,7 @@ module _ (room : ℕ) where
       }
 
 module _ (room : ℕ) (x y : List ℕ) (short : length (x ++ semicolon ∷ y) ≤ line_limit) (m : Module) (one two : List ℕ)
-    (passes : guard_of m (length one) (length two) ≡ Done)
+    (passes : guard_of m (length one) (length two) ≡ done)
   where
     abbrev ran_first : Line
     ran_first = line_of room x m.state one two
@@ -209,7 +206,7 @@ module _ (room : ℕ) (x y : List ℕ) (short : length (x ++ semicolon ∷ y) �
 
     calls :
         let c = line_call room x m one two in
-        c.report.answer ≡ Passed → c.out ≡ [] →
+        c.report.answer ≡ passed → c.out ≡ [] →
         line_call room (x ++ semicolon ∷ y) m one two
         ≡ placed_later (length (texts_of x)) (line_call room y c.after c.one c.two)
     unfolding line_of

@@ -10,7 +10,7 @@ use borrow.Author.Tests.{le-ltb}
 use Rattle.split.specs.Divide.{parts}
 use Rattle.number.specs.Number.{is_number, begins}
 use Rattle.number.specs.Parts.{taken_of}
-use Rattle.number.specs.declared.Argument.TheVariants.{Value}
+use Rattle.std.specs.Prelude.{Some, Ok}
 use Rattle.format.specs.Text.{plain, sign, distance, signed_text}
 use Rattle.format.proofs.Value.{fixed_plain}
 use Rattle.format.proofs.Length.{plain-length, signed-length}
@@ -25,7 +25,8 @@ use Rattle.settings.specs.Setting.{setting_of}
 use Rattle.settings.specs.Valid.{value_valid}
 use Rattle.settings.proofs.Rows.{row_size, row_decimals}
 use Rattle.command.specs.Arguments.{comma, arguments}
-use Rattle.command.specs.Parsed.{parsed_of, taken, whole_range, whole_of, one, two, three, alone, set_with, query_with}
+use Rattle.command.specs.Parsed.{parsed_of, parsed_as, taken, whole_range, whole_of, one, two, three}
+use Rattle.command.specs.Parsed.{alone, set_with, query_with}
 use Rattle.command.specs.Parsed.{set_setting, set_channel, set_channel_pair, set_enable}
 use Rattle.command.specs.Parsed.{query_enable, query_channel, query_channel_pair, query_trace}
 use Rattle.command.proofs.Exact.{whole_is}
@@ -65,19 +66,19 @@ joined_bytes : (x y : List ℕ) → all in_number x ≡ true → all in_argument
 joined_bytes x y b c = all_append in_arguments x (comma ∷ y) (in_arguments_lem x b) c
 
 -- a name of four bytes, and what follows it
-parsed_name : (name rest : List ℕ) → length name ≡ 4 →
-    let m = meaning_of name in
-    parsed_of (name ++ rest) ≡ cond (begins 63 rest) (query_with m (arguments (drop 1 rest))) (set_with m (arguments rest))
+parsed_name : (name rest : List ℕ) (m : Meaning) → length name ≡ 4 → meaning_of name ≡ Some m →
+    parsed_of (name ++ rest)
+    ≡ parsed_as (cond (begins 63 rest) (query_with m (arguments (drop 1 rest))) (set_with m (arguments rest)))
 unfolding parsed_of
-parsed_name [] rest h = absurd (omega arith)
-parsed_name (a ∷ []) rest h = absurd (omega arith)
-parsed_name (a ∷ b ∷ []) rest h = absurd (omega arith)
-parsed_name (a ∷ b ∷ c ∷ []) rest h = absurd (omega arith)
-parsed_name (a ∷ b ∷ c ∷ d ∷ []) rest h = rw (le-ltb (length (a ∷ b ∷ c ∷ d ∷ rest)) 4 (omega arith))
-parsed_name (a ∷ b ∷ c ∷ d ∷ e ∷ name) rest h = absurd (omega arith)
+parsed_name [] rest m h e = absurd (omega arith)
+parsed_name (a ∷ []) rest m h e = absurd (omega arith)
+parsed_name (a ∷ b ∷ []) rest m h e = absurd (omega arith)
+parsed_name (a ∷ b ∷ c ∷ []) rest m h e = absurd (omega arith)
+parsed_name (a ∷ b ∷ c ∷ d ∷ []) rest m h e = rw (le-ltb (length (a ∷ b ∷ c ∷ d ∷ rest)) 4 (omega arith), e)
+parsed_name (a ∷ b ∷ c ∷ d ∷ e ∷ name) rest m h f = absurd (omega arith)
 
 -- a command of such a name, then "?", or other bytes of arguments
-module _ (name : List ℕ) (n : Name name) (m : Meaning) (means : meaning_of name ≡ m) (kind : Kind) where
+module _ (name : List ℕ) (n : Name name) (m : Meaning) (means : meaning_of name ≡ Some m) (kind : Kind) where
   says : (text : List ℕ) → length text ≤ 252 → all in_command text ≡ true → parsed_of (name ++ text) ≡ taken kind →
       Says (name ++ text) kind
   says text l b e =
@@ -90,19 +91,19 @@ module _ (name : List ℕ) (n : Name name) (m : Meaning) (means : meaning_of nam
       }
 
   query-says : (args : List ℕ) → length args ≤ 251 → all in_arguments args ≡ true →
-      query_with m (arguments args) ≡ taken kind → Says (name ++ (63 ∷ args)) kind
+      query_with m (arguments args) ≡ Ok kind → Says (name ++ (63 ∷ args)) kind
   unfolding begins
   query-says args l b e =
-      says (63 ∷ args) (omega arith) (in_command_lem args b) (parsed_name name (63 ∷ args) n.four ∙ rw means e)
+      says (63 ∷ args) (omega arith) (in_command_lem args b) (parsed_name name (63 ∷ args) m n.four means ∙ rw e)
 
   set_says : (args : List ℕ) → length args ≤ 252 → all in_arguments args ≡ true →
-      set_with m (arguments args) ≡ taken kind → Says (name ++ args) kind
+      set_with m (arguments args) ≡ Ok kind → Says (name ++ args) kind
   set_says args l b e =
       says args l (in_command_lem args b)
-      (parsed_name name args n.four ∙ rw (begins-other in_arguments 63 refl args b, means) e)
+      (parsed_name name args m n.four means ∙ rw (begins-other in_arguments 63 refl args b, e))
 
   -- one whole number asked for, of up to five digits
-  number-says : (i : ℕ) → length (plain i) ≤ 5 → query_with m (plain i ∷ []) ≡ taken kind →
+  number-says : (i : ℕ) → length (plain i) ≤ 5 → query_with m (plain i ∷ []) ≡ Ok kind →
       Says (name ++ (63 ∷ plain i)) kind
   number-says i l e =
       query-says (plain i) (omega arith) (in_arguments_lem (plain i) (plain-bytes i))
@@ -118,7 +119,7 @@ plain-signed i =
 record Whole (low high i : ℕ) : Type 0 where
   short : length (plain i) ≤ 5
   number : is_number (plain i) ≡ true
-  value : whole_of low high (plain i) ≡ Value i
+  value : whole_of low high (plain i) ≡ Some i
 
 whole_again : (low high i : ℕ) → low ≤ i → i ≤ high → high ≤ 99999 → Whole low high i
 whole_again low high i some most few =
@@ -143,7 +144,7 @@ alike_written a v = let same = alike_text a in rw (same.0, same.1)
 -- what is written at an entry is taken alike at an entry with such a row
 record Fits (e f v : ℕ) : Type 0 where
   number : is_number (written e v) ≡ true
-  value : setting_of f (written e v) ≡ Value v
+  value : setting_of f (written e v) ≡ Some v
 
 fits_alike : (e f v : ℕ) → Alike e f → value_valid e v ≡ true → Fits e f v
 fits_alike e f v a h =
@@ -162,7 +163,7 @@ written-short entry v h =
     signed-length 10 (row_of entry).decimals (row_of entry).bias v (omega arith) (omega arith)
 
 module _ (name : List ℕ) (n : Name name) where
-  module _ (entry : ℕ) (means : meaning_of name ≡ Setting entry) where
+  module _ (entry : ℕ) (means : meaning_of name ≡ Some (Setting entry)) where
     pub one-asked : Says (name ++ (63 ∷ [])) (Query (query.Value entry))
     unfolding query_with alone arguments
     one-asked = query-says name n (Setting entry) means (Query (query.Value entry)) [] (omega arith) refl refl
@@ -176,7 +177,7 @@ module _ (name : List ℕ) (n : Name name) where
         (in_arguments_lem x (written-bytes entry v))
         (rw (text-one x (signed_some _ _ v) (written-bytes entry v), w.number, w.value))
 
-  module _ (which : Register) (means : meaning_of name ≡ Enable which) where
+  module _ (which : Register) (means : meaning_of name ≡ Some (Enable which)) where
     pub enable-asked : Says (name ++ (63 ∷ [])) (Query (query.Enable which))
     unfolding query_with query_enable arguments
     enable-asked = query-says name n (Enable which) means (Query (query.Enable which)) [] (omega arith) refl refl
@@ -190,7 +191,7 @@ module _ (name : List ℕ) (n : Name name) where
         (rw (text-one (plain v) (plain_some v) (plain-bytes v), w.number, w.value))
 
   module _ (base channels i : ℕ) (some : 1 ≤ i) (most : i ≤ channels) (few : channels ≤ entries) where
-    module _ (means : meaning_of name ≡ Channel base channels) where
+    module _ (means : meaning_of name ≡ Some (Channel base channels)) where
       pub channel-asked : Says (name ++ (63 ∷ plain i)) (Query (query.Value (base + (i - 1))))
       unfolding query_with query_channel one
       channel-asked =
@@ -218,7 +219,7 @@ module _ (name : List ℕ) (n : Name name) where
             w.value,
           ))
 
-    module _ (means : meaning_of name ≡ ChannelPair base channels) where
+    module _ (means : meaning_of name ≡ Some (ChannelPair base channels)) where
       pub pair-asked : Says (name ++ (63 ∷ plain i)) (Query (query.Pair (base + 2 * (i - 1))))
       unfolding query_with query_channel_pair one
       pair-asked =
@@ -254,8 +255,8 @@ module _ (name : List ℕ) (n : Name name) where
           ))
 
   -- a trace query
-  pub trace-asked : (form : Form) (t bin count : ℕ) → meaning_of name ≡ Trace form → 1 ≤ t → t ≤ 2 → bin ≤ capacity_most →
-      1 ≤ count → count ≤ capacity_most →
+  pub trace-asked : (form : Form) (t bin count : ℕ) → meaning_of name ≡ Some (Trace form) → 1 ≤ t → t ≤ 2 →
+      bin ≤ capacity_most → 1 ≤ count → count ≤ capacity_most →
       let text = plain t ++ comma ∷ (plain bin ++ comma ∷ plain count) in
       Says (name ++ (63 ∷ text)) (Query (query.Trace form t bin count))
   unfolding query_with query_trace three

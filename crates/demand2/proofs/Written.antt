@@ -14,8 +14,7 @@ use Rattle.number.specs.Value.{exact_of}
 use Rattle.number.specs.Parts.{cap, quantity_of, read_of, fits_range, rounded_to, placed_in, value_in, taken_of}
 use Rattle.number.specs.declared.Range.{Range}
 use Rattle.number.specs.declared.Quantity.{Quantity}
-use Rattle.number.specs.declared.Argument.TheVariants.{Value}
-use Rattle.number.specs.declared.Reading.TheVariants.{Number, NotNumber}
+use Rattle.std.specs.Prelude.{Some, None}
 use Rattle.laws.proofs.Tests.{and_first, and_second}
 use Rattle.format.specs.Text.{distance}
 use Rattle.format.proofs.RoundTrip.{read_again}
@@ -62,7 +61,7 @@ module _ (r : Range) (v : ℕ) (low : r.low ≤ v) (high : v ≤ r.high) (bias :
     by true e = let l = ltb-true v r.bias e in omega arith
     by false e = let l = ltb-false v r.bias e in omega arith
 
-  pub taken-whole : taken_of r (whole r.bias v) ≡ Value v
+  pub taken-whole : taken_of r (whole r.bias v) ≡ Some v
   unfolding taken_of value_in
   taken-whole =
       rw (lt-ltb (distance r.bias v) cap (omega arith), fits, or-true (not r.whole), placed, le-ltb 4294967295 v (omega arith))
@@ -72,10 +71,10 @@ pub record Read (decimals : ℕ) (s : List ℕ) (q : Quantity) : Type 0 where
   pub number : is_number s ≡ true
   pub kept : quantity_of (exact_of decimals s) ≡ q
 
-pub read_as : (decimals : ℕ) (s : List ℕ) (q : Quantity) → read_of decimals s ≡ Number q → Read decimals s q
+pub read_as : (decimals : ℕ) (s : List ℕ) (q : Quantity) → read_of decimals s ≡ Some q → Read decimals s q
 unfolding read_of
 read_as decimals s q = by (is_number s) refl where
-  by : (t : Bool) → is_number s ≡ t → cond t (Number (quantity_of (exact_of decimals s))) NotNumber ≡ Number q → Read decimals s q
+  by : (t : Bool) → is_number s ≡ t → cond t (Some (quantity_of (exact_of decimals s))) None ≡ Some q → Read decimals s q
   by true n e = record { number = n; kept = cc }
   by false n e = never (cc)
 
@@ -121,17 +120,17 @@ distance-step entry v h =
       by false e false g u = rw (g, eqb→eq (row_of entry).step 1 u) (mod-one (distance (row_of entry).bias v))
 
 -- a row that turns leaves a kept value as it is
-turned_kept : (entry v : ℕ) → Kept entry v → turned_at (row_of entry).turns (Value v) ≡ Value v
+turned_kept : (entry v : ℕ) → Kept entry v → turned_at (row_of entry).turns (Some v) ≡ Some v
 unfolding turned_at
 turned_kept entry v k = by (row_of entry).turns refl where
-  by : (t : Bool) → (row_of entry).turns ≡ t → Value (cond t (turned_of v) v) ≡ Value v
+  by : (t : Bool) → (row_of entry).turns ≡ t → Some (cond t (turned_of v) v) ≡ Some v
   by true e =
       let l : phase.least ≤ v = rw (phase-row entry e) at k.least in
       let m : v ≤ phase.most = rw (phase-row entry e) at k.most in
-      ap Value (sym (turned_only v v (record { least = l; most = m; turns = refl })))
+      ap Some (sym (turned_only v v (record { least = l; most = m; turns = refl })))
   by false e = refl
 
-value_taken_lem : (entry v : ℕ) → Kept entry v → value_taken entry (whole (row_of entry).bias v) ≡ Value v
+value_taken_lem : (entry v : ℕ) → Kept entry v → value_taken entry (whole (row_of entry).bias v) ≡ Some v
 unfolding value_taken range_of step_of
 value_taken_lem entry v k =
     let n = distance (row_of entry).bias v in

@@ -9,7 +9,7 @@
 -- - only the first command of a line is done, the later ones just counted: by Lines.antt (§2.6);
 --   line/must-fail/later_commands_acknowledged,
 -- - SPTS? replies some number: by Points.antt (§7.9); reply/must-fail/points_invented.
-use Rattle.std.specs.Prelude.{ℕ, ◌+◌, ◌-◌, ◌*◌, ◌≤◌, ◌≡◌, true, length}
+use Rattle.std.specs.Prelude.{ℕ, ◌+◌, ◌-◌, ◌*◌, ◌≤◌, Some, ◌≡◌, true, length}
 use mathlib.Core.List.{List, [], ◌∷◌, ◌++◌, map, Memᴰ}
 use Rattle.command.specs.Arguments.{comma, question_mark}
 use Rattle.format.specs.Text.{plain}
@@ -21,9 +21,8 @@ use Rattle.settings.specs.Frequency.{is_internal}
 use Rattle.storage.specs.Storage.{is_reset}
 use Rattle.status.specs.Status.{enable_of}
 use Rattle.outcome.specs.declared.Refusal.TheVariants.{NotAllowed}
-use Rattle.outcome.specs.declared.Outcome.TheVariants.{Done}
-use Rattle.outcome.specs.declared.Answer.TheVariants.{Passed, Refused}
-use Rattle.outcome.specs.Answer.{report_of}
+use Rattle.outcome.specs.Code.{done}
+use Rattle.outcome.specs.Answer.{report_of, passed, refused_at}
 use Rattle.state.specs.State.{with_error_bit}
 use Rattle.state.specs.declared.State.{State}
 use Rattle.reply.specs.Text.{terminator_of}
@@ -65,15 +64,16 @@ channelled name i held =
 -- §3.2: every setting, channel and enable, by what the names mean
 pub data IsSetting : Address → Type 0 where
   -- §3.3: a setting without channels
-  alone : (name : List ℕ) (entry : ℕ) → meaning_of name ≡ Setting entry → IsSetting (plainly name (at_entry entry))
+  alone : (name : List ℕ) (entry : ℕ) → meaning_of name ≡ Some (Setting entry) →
+      IsSetting (plainly name (at_entry entry))
   -- §5.4: channel i of a setting with one value for each channel
-  channel : (name : List ℕ) (base channels i : ℕ) → meaning_of name ≡ Channel base channels → 1 ≤ i → i ≤ channels →
-      IsSetting (channelled name i (at_entry (base + (i - 1)) ∷ []))
+  channel : (name : List ℕ) (base channels i : ℕ) → meaning_of name ≡ Some (Channel base channels) →
+      1 ≤ i → i ≤ channels → IsSetting (channelled name i (at_entry (base + (i - 1)) ∷ []))
   -- §5.4: channel i of a setting with two values for each channel
-  pair : (name : List ℕ) (base channels i : ℕ) → meaning_of name ≡ ChannelPair base channels → 1 ≤ i → i ≤ channels →
-      IsSetting (channelled name i (at_entry (base + 2 * (i - 1)) ∷ at_entry (next_entry (base + 2 * (i - 1))) ∷ []))
+  pair : (name : List ℕ) (base channels i : ℕ) → meaning_of name ≡ Some (ChannelPair base channels) →
+      1 ≤ i → i ≤ channels → IsSetting (channelled name i (at_entry (base + 2 * (i - 1)) ∷ at_entry (next_entry (base + 2 * (i - 1))) ∷ []))
   -- §10.3: an enable
-  enable : (name : List ℕ) (which : Register) → meaning_of name ≡ Enable which →
+  enable : (name : List ℕ) (which : Register) → meaning_of name ≡ Some (Enable which) →
       IsSetting (plainly name (at_enable which))
 
 -- ---- values and their texts
@@ -107,11 +107,11 @@ reply_to a s = joined (map (text_at s) a.holds)
 -- §1.4: a module that there can be, with its traces, that 11 and 9 do not refuse
 pub record Ready (m : Module) (one two : List ℕ) : Type 0 where
   pub fits : ModuleFits m
-  pub passes : guard_of m (length one) (length two) ≡ Done
+  pub passes : guard_of m (length one) (length two) ≡ done
 
 -- §1.5: a call that answers 0, writes these reply bytes and changes nothing
 abbrev pub answered : List ℕ → Module → List ℕ → List ℕ → Call
-answered out m one two = record { after = m; one = one; two = two; out = out; report = report_of Passed (length out) }
+answered out m one two = record { after = m; one = one; two = two; out = out; report = report_of passed (length out) }
 
 -- §12.3: the settings that a state can refuse by 3
 pub data CanRefuse : List Location → Type 0 where
@@ -136,10 +136,10 @@ OthersStay places before after =
 pub data SentBack (places : List Location) (values : List ℕ) (t : Module) (one two : List ℕ) : Call → Type 0 where
   taken : (after : Module) → after.queue ≡ t.queue → values_at after.state places ≡ values →
       OthersStay places t.state after.state →
-      SentBack places values t one two (silent (report_of Passed 0) after one two)
+      SentBack places values t one two (silent (report_of passed 0) after one two)
   refused : CanRefuse places →
       SentBack places values t one two
-      (silent (report_of (Refused NotAllowed 1) 0)
+      (silent (report_of (refused_at NotAllowed 1) 0)
       (record { state = with_error_bit NotAllowed t.state; queue = t.queue }) one two)
 
 -- §6.1: FREQ? replies the frequency in force, which is FREQ's own value in internal mode

@@ -1,11 +1,9 @@
 -- Lines of several commands, over the call with a whole line: a line x;y does what x does and then what y does (§2.6).
-use Rattle.std.specs.Prelude.{ℕ, ◌+◌, ◌≤◌, cond, ◌≡◌, List, [], ◌∷◌, ◌++◌, length}
+use Rattle.std.specs.Prelude.{ℕ, ◌+◌, ◌≤◌, cond, ◌≡◌, List, [], ◌∷◌, ◌++◌, length, Ok, Err}
 use Rattle.line_text.specs.Clean.{line_limit}
 use Rattle.line_text.specs.Texts.{semicolon, texts_of}
-use Rattle.outcome.specs.declared.Outcome.TheVariants.{Done}
-use Rattle.outcome.specs.declared.Answer.{Answer}
-use Rattle.outcome.specs.declared.Answer.TheVariants.{Passed, Refused}
-use Rattle.outcome.specs.Answer.{report_of}
+use Rattle.outcome.specs.Code.{done}
+use Rattle.outcome.specs.Answer.{report_of, Answer, passed, refused_at}
 use Rattle.line.specs.Line.{Line, run_all, line_of}
 use Rattle.module.specs.Module.{guard_of}
 use Rattle.module.specs.declared.Module.{Module}
@@ -18,8 +16,8 @@ continued room y l = cond l.report.dropped l (run_all room (texts_of y) l)
 
 -- §2.6: an answer with n commands more before it, so that its place is n further on
 abbrev pub later_answer : ℕ → Answer → Answer
-later_answer n Passed = Passed
-later_answer n (Refused r place) = Refused r (place + n)
+later_answer n (Ok _) = passed
+later_answer n (Err e) = refused_at e.refusal (e.place + n)
 
 -- §2.6: a call whose answer's place is n further on
 abbrev pub placed_later : ℕ → Call → Call
@@ -40,7 +38,7 @@ pub record InTurn (room : ℕ) (x y : List ℕ) (m : Module) (one two : List ℕ
       ≡ with_queue m.queue (line_ran (continued room y (line_of room x m.state one two)))
   pub calls :
       let c = line_call room x m one two in
-      c.report.answer ≡ Passed → c.out ≡ [] →
+      c.report.answer ≡ passed → c.out ≡ [] →
       line_call room (x ++ semicolon ∷ y) m one two
       ≡ placed_later (length (texts_of x)) (line_call room y c.after c.one c.two)
 
@@ -48,4 +46,4 @@ pub record InTurn (room : ℕ) (x y : List ℕ) (m : Module) (one two : List ℕ
 abbrev pub SeveralCommands : Type 0
 SeveralCommands =
     (room : ℕ) (x y : List ℕ) → length (x ++ semicolon ∷ y) ≤ line_limit → (m : Module) (one two : List ℕ) →
-    guard_of m (length one) (length two) ≡ Done → InTurn room x y m one two
+    guard_of m (length one) (length two) ≡ done → InTurn room x y m one two

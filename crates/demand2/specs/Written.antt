@@ -1,8 +1,7 @@
 -- Numbers are read and written exactly (§4.2, §4.6): what a reply says of a value that a setting may have sets that
 -- value again (§4.7).
-use Rattle.std.specs.Prelude.{ℕ, ◌≡◌, true, List}
+use Rattle.std.specs.Prelude.{ℕ, ◌≡◌, true, List, Some}
 use Rattle.number.specs.Number.{is_number}
-use Rattle.number.specs.declared.Argument.TheVariants.{Value}
 use Rattle.settings.specs.Table.{row_of}
 use Rattle.settings.specs.Setting.{setting_of}
 use Rattle.settings.specs.Valid.{value_valid}
@@ -15,7 +14,7 @@ written entry v = signed_text (row_of entry).decimals (row_of entry).bias v
 -- §4.7: the text of a value is a number (§4.1), and sets the same value
 pub record SetsAgain (entry v : ℕ) : Type 0 where
   pub number : is_number (written entry v) ≡ true
-  pub value : setting_of entry (written entry v) ≡ Value v
+  pub value : setting_of entry (written entry v) ≡ Some v
 
 -- §4.7: this holds of every entry and every value that the entry may have
 abbrev pub WrittenAgain : Type 0

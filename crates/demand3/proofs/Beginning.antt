@@ -5,16 +5,14 @@ use mathlib.Core.Bool.{Bool, true, false, ◌||◌}
 use mathlib.Core.Path.{◌≡◌, refl, sym, ap, ◌∙◌}
 use mathlib.Core.Logic.{◌≢◌}
 use mathlib.Core.List.{List, [], ◌∷◌}
+use Rattle.std.specs.Prelude.{Ok, Err, Some, None}
 use Rattle.laws.proofs.Tests.{never}
 use Rattle.outcome.specs.declared.Refusal.{Refusal}
 use Rattle.outcome.specs.declared.Refusal.TheVariants.{NoReset, LongScriptLine}
-use Rattle.outcome.specs.declared.Outcome.TheVariants as outcome
-use Rattle.command.specs.Parsed.{parsed_of}
-use Rattle.command.specs.declared.Parsed.{Parsed}
-use Rattle.command.specs.declared.Parsed.TheVariants as parsed
+use Rattle.outcome.specs.Code.{done}
+use Rattle.command.specs.Parsed.{parsed_of, Parsed}
 use Rattle.line_text.specs.Texts.{texts_of}
-use Rattle.outcome.specs.declared.Answer.{Answer}
-use Rattle.outcome.specs.declared.Answer.TheVariants.{Passed, Refused}
+use Rattle.outcome.specs.Answer.{Answer, passed, refused_at}
 use Rattle.extreme_courses.specs.declared.Model.{Model}
 use Rattle.extreme_courses.specs.Extremes.{resets, before_line, kind_refusal, text_refusal, kind_after, text_after}
 use Rattle.extreme_courses.specs.declared.Extremes.{Extremes}
@@ -29,20 +27,20 @@ use Rattle.demand3.proofs.LongLines.{number_of, begun_texts, begun-number, event
 
 -- it is empty: the check goes on as it was
 record Skipped (model : Model) (b : Extremes) (p : Parsed) (line place : ℕ) (later : FirstCommand) : Type 0 where
-  outcome : text_refusal p b ≡ outcome.Done
+  outcome : text_refusal p b ≡ done
   after : text_after model p b ≡ b
   lead : first_command_by p line place later ≡ later
 
 -- it is *RST
 record Begun (model : Model) (b : Extremes) (p : Parsed) (line place : ℕ) (later : FirstCommand) : Type 0 where
-  outcome : text_refusal p b ≡ outcome.Done
+  outcome : text_refusal p b ≡ done
   after : (text_after model p b).begun ≡ true
   lead : first_command_by p line place later ≡ first line place p
   reset : is_rst_command p ≡ true
 
 -- it is another: 7
 record Unled (b : Extremes) (p : Parsed) (line place : ℕ) (later : FirstCommand) : Type 0 where
-  outcome : text_refusal p b ≡ outcome.Refused NoReset
+  outcome : text_refusal p b ≡ Err NoReset
   lead : first_command_by p line place later ≡ first line place p
   reset : is_rst_command p ≡ false
 
@@ -55,10 +53,10 @@ lead_split : (model : Model) (b : Extremes) → b.begun ≡ false
     → (Skipped model b p line place later → Goal) → (Begun model b p line place later → Goal)
     → (Unled b p line place later → Goal) → Goal
 unfolding text_refusal text_after first_command_by is_rst_command
-lead_split model b k parsed.Empty line place later G f g h = f (record { outcome = refl; after = refl; lead = refl })
-lead_split model b k (parsed.Refused r) line place later G f g h =
+lead_split model b k (Ok None) line place later G f g h = f (record { outcome = refl; after = refl; lead = refl })
+lead_split model b k (Err r) line place later G f g h =
     h (record { outcome = rw k refl; lead = refl; reset = refl })
-lead_split model b k (parsed.Taken c) line place later G f g h = by (resets c.kind) refl where
+lead_split model b k (Ok (Some c)) line place later G f g h = by (resets c.kind) refl where
   by : (t : Bool) → resets c.kind ≡ t → G
   by true e =
       g (record {
@@ -72,7 +70,8 @@ lead_split model b k (parsed.Taken c) line place later G f g h = by (resets c.ki
 -- ---- a line before *RST
 
 module _ (model : Model) (line : ℕ) (Goal : Type 0) where
-  early_passed : (place : ℕ) (ts : List (List ℕ)) (b : Extremes) → b.begun ≡ false → texts_answer model place ts b ≡ Passed
+  early_passed : (place : ℕ) (ts : List (List ℕ)) (b : Extremes) → b.begun ≡ false
+      → texts_answer model place ts b ≡ passed
       → (first_command_in line place ts ≡ none → (texts_after model ts b).begun ≡ false → Goal)
       → ((q : ℕ) (c : Parsed) → first_command_in line place ts ≡ first line q c → is_rst_command c ≡ true → (texts_after model ts b).begun
       ≡ true → Goal) → Goal
@@ -83,7 +82,7 @@ module _ (model : Model) (line : ℕ) (Goal : Type 0) where
       let a = answer-passed (text_refusal p b) place (texts_answer model (place + 1) ts (text_after model p b)) e in
       lead_split model b k p line place (first_command_in line (place + 1) ts) Goal
       (λ s.
-      let n : texts_answer model (place + 1) ts b ≡ Passed = rw s.after at a.1 in
+      let n : texts_answer model (place + 1) ts b ≡ passed = rw s.after at a.1 in
       early_passed (place + 1) ts b k n
       (λ u v. f (s.lead ∙ u) (ap (λ (y : Extremes). (texts_after model ts y).begun) s.after ∙ v))
       (λ q c u v w. g q c (s.lead ∙ u) v (ap (λ (y : Extremes). (texts_after model ts y).begun) s.after ∙ w)))
@@ -91,7 +90,7 @@ module _ (model : Model) (line : ℕ) (Goal : Type 0) where
       (λ s. not_done NoReset (sym s.outcome ∙ a.0))
 
   early_refused : (place : ℕ) (ts : List (List ℕ)) (b : Extremes) (r : Refusal) (p : ℕ) → b.begun ≡ false
-      → texts_answer model place ts b ≡ Refused r p
+      → texts_answer model place ts b ≡ refused_at r p
       → ((c : Parsed) → r ≡ NoReset → first_command_in line place ts ≡ first line p c → is_rst_command c ≡ false → Goal)
       → ((q : ℕ) (c : Parsed) → first_command_in line place ts ≡ first line q c → is_rst_command c ≡ true → number_of r ≤ 3 → Goal) → Goal
   unfolding texts_answer first_command_in
@@ -104,7 +103,7 @@ module _ (model : Model) (line : ℕ) (Goal : Type 0) where
       (λ s.
       split
       (λ u v.
-      let n : texts_answer model (place + 1) ts b ≡ Refused r p = rw s.after at v in
+      let n : texts_answer model (place + 1) ts b ≡ refused_at r p = rw s.after at v in
       early_refused (place + 1) ts b r p k n (λ c y z w. f c y (s.lead ∙ z) w) (λ q c y z w. g q c (s.lead ∙ y) z w))
       (λ u v. not_done r (sym u ∙ s.outcome)))
       (λ s.
@@ -127,9 +126,9 @@ lead_line line place [] m q c e = never (cc)
 lead_line line place (t ∷ ts) m q c e = by (parsed_of t) e (lead_line line (place + 1) ts m q c) where
   by : (p : Parsed) → first_command_by p line place (first_command_in line (place + 1) ts) ≡ first m q c
       → (first_command_in line (place + 1) ts ≡ first m q c → line ≡ m) → line ≡ m
-  by parsed.Empty f g = g (unfold first_command_by in f)
-  by (parsed.Refused r) f g = let z : first line place (parsed.Refused r) ≡ first m q c = unfold first_command_by in f in cc
-  by (parsed.Taken k) f g = let z : first line place (parsed.Taken k) ≡ first m q c = unfold first_command_by in f in cc
+  by (Ok None) f g = g (unfold first_command_by in f)
+  by (Err r) f g = let z : first line place (Err r) ≡ first m q c = unfold first_command_by in f in cc
+  by (Ok (Some k)) f g = let z : first line place (Ok (Some k)) ≡ first m q c = unfold first_command_by in f in cc
 
 lead_from : (line : ℕ) (ls : List (List ℕ)) (m q : ℕ) (c : Parsed) → first_command_from line ls ≡ first m q c → line ≤ m
 unfolding first_command_from
@@ -179,11 +178,11 @@ begun_found model (l ∷ ls) b k = by (line_answer model l b) refl (begun_found 
 
   by : (a : Answer) → line_answer model l b ≡ a → AfterReset (finding model ls (line_after model l b))
       → AfterReset (found_by a (finding model ls (line_after model l b)))
-  by Passed e n = unfold found_by in begun-later (finding model ls (line_after model l b)) n
-  by (Refused r p) e n =
+  by (Ok _) e n = unfold found_by in begun-later (finding model ls (line_after model l b)) n
+  by (Err x) e n =
       unfold found_by in
-      refused_split model l b r p (r ≢ NoReset) e (λ t z q y. seven-eight (sym y ∙ z))
-      (λ t f h. small_number r (begun-number model 1 (texts_of l) (before_line model b) r p (event-begun model b ∙ k) f))
+      refused_split model l b x.refusal x.place (x.refusal ≢ NoReset) e (λ t z q y. seven-eight (sym y ∙ z))
+      (λ t f h. small_number x.refusal (begun-number model 1 (texts_of l) (before_line model b) x.refusal x.place (event-begun model b ∙ k) f))
 
 -- ---- how it begins
 
@@ -207,7 +206,7 @@ begins-later line v lead (with_long i e f) = with_long (suc i) (ap later e) (λ 
 module _ (model : Model) where
   -- a line before *RST that passes
   line_led : (line : ℕ) (l : List ℕ) (ls : List (List ℕ)) (b : Extremes) (Goal : Type 0) → b.begun ≡ false
-      → line_answer model l b ≡ Passed
+      → line_answer model l b ≡ passed
       → (first_command_from line (l ∷ ls) ≡ first_command_from (line + 1) ls → (line_after model l b).begun ≡ false → Goal)
       → ((q : ℕ) (c : Parsed) → first_command_from line (l ∷ ls) ≡ first line q c → is_rst_command c ≡ true → (line_after model l b).begun
       ≡ true → Goal) → Goal
@@ -227,19 +226,19 @@ module _ (model : Model) where
           → ((line_after model l b).begun ≡ false → Begins (line + 1) (finding model ls (line_after model l b))
           (first_command_from (line + 1) ls))
           → Begins line (found_by a (finding model ls (line_after model l b))) (first_command_from line (l ∷ ls))
-      by Passed e next =
+      by (Ok _) e next =
           unfold found_by in
           line_led line l ls b _ k e
           (λ u v. rw u (begins-later line (finding model ls (line_after model l b)) (first_command_from (line + 1) ls) (next v)))
           (λ q c u v w.
           with_reset line q c u v
           (begun-later (finding model ls (line_after model l b)) (begun_found model ls (line_after model l b) w)))
-      by (Refused r p) e next =
+      by (Err x) e next =
           unfold found_by in
-          refused_split model l b r p _ e
+          refused_split model l b x.refusal x.place _ e
           (λ t z y.
           with_long 0 (rw (z, y) refl) (λ n q c u. omega (arith, lead_from line (l ∷ ls) n q c u)))
           (λ t f h.
-          early_refused model line _ 1 (texts_of l) (before_line model b) r p (event-begun model b ∙ k) f
-          (λ c z u v. with_other 0 p line c (rw z refl) (omega arith) (take-line line l ls line p c u) v)
-          (λ q c u v w. with_reset line q c (take-line line l ls line q c u) v (small_number r w)))
+          early_refused model line _ 1 (texts_of l) (before_line model b) x.refusal x.place (event-begun model b ∙ k) f
+          (λ c z u v. with_other 0 x.place line c (rw z refl) (omega arith) (take-line line l ls line x.place c u) v)
+          (λ q c u v w. with_reset line q c (take-line line l ls line q c u) v (small_number x.refusal w)))

@@ -6,16 +6,14 @@ use mathlib.Core.Bool.{Bool, true, false, cond, ◌&&◌, false≢true}
 use mathlib.Core.Path.{◌≡◌, refl, sym, ◌∙◌}
 use mathlib.Core.List.{List, [], ◌∷◌}
 use lib.ListN.{length}
+use Rattle.std.specs.Prelude.{Ok, Err, Some, None}
 use Rattle.outcome.specs.declared.Refusal.{Refusal}
 use Rattle.outcome.specs.declared.Refusal.TheVariants.{NotAllowed, NoRoom, NoReset}
-use Rattle.outcome.specs.declared.Outcome.{Outcome}
-use Rattle.outcome.specs.declared.Outcome.TheVariants as outcome
+use Rattle.outcome.specs.Code.{Outcome, done}
 use Rattle.mnemonic.specs.declared.Action.TheVariants.{Reset, Clear, Start, Pause, Empty, Trigger}
-use Rattle.command.specs.Parsed.{parsed_of}
+use Rattle.command.specs.Parsed.{Parsed, parsed_of}
 use Rattle.command.specs.declared.Kind.{Kind}
 use Rattle.command.specs.declared.Kind.TheVariants.{Set, Query, Act}
-use Rattle.command.specs.declared.Parsed.{Parsed}
-use Rattle.command.specs.declared.Parsed.TheVariants as parsed
 use Rattle.state.specs.declared.State.{State}
 use Rattle.precondition.specs.Allowed.{is_allowed}
 use Rattle.effect.specs.Effect.{restored_by, settings_after, storage_by, restarted_by, acquisition_by}
@@ -23,9 +21,9 @@ use Rattle.effect.specs.Effect.{acquisition_after, state_after}
 use Rattle.reply_buffer.specs.Buffer.{fits_in}
 use Rattle.reply.specs.Reply.{reply_of}
 use Rattle.line.specs.Perform.{Effect, refused_by, done_by, performed, command_of}
-use Rattle.outcome.specs.Answer.{first_of, is_no_room, drops}
+use Rattle.outcome.proofs.Placed.{told_place}
+use Rattle.outcome.specs.Answer.{first_of, is_no_room, drops, passed, refused_at}
 use Rattle.line.specs.Line.{Line, waits, after_of, after_command, run_all}
-use Rattle.outcome.specs.declared.Answer.TheVariants.{Passed, Refused}
 use Rattle.extreme_courses.specs.Model.{OfModel}
 use Rattle.extreme_courses.specs.declared.Model.{Model}
 use Rattle.extreme_courses.specs.Extremes.{resets, kind_refusal, text_refusal, kind_after, text_after}
@@ -49,10 +47,10 @@ pub record Sim (model : Model) (b : Extremes) (s : State) : Type 0 where
 
 -- an effect that isn't refused, and leads where the check goes
 abbrev Follows : Model → Extremes → Effect → Type 0
-Follows model b e = (e.report ≡ outcome.Done) × Sim model b e.after
+Follows model b e = (e.report ≡ done) × Sim model b e.after
 
 -- what the check passes: after *RST what both of its courses allow, before it *RST
-pub kind_done : (b : Extremes) (kind : Kind) (Goal : Type 0) → kind_refusal kind b ≡ outcome.Done
+pub kind_done : (b : Extremes) (kind : Kind) (Goal : Type 0) → kind_refusal kind b ≡ done
     → (b.begun ≡ true → is_allowed b.settings b.low kind ≡ true → is_allowed b.settings b.high kind ≡ true
     → Goal)
     → (resets kind ≡ true → Goal) → Goal
@@ -61,8 +59,8 @@ kind_done b kind Goal =
     by b.begun (is_allowed b.settings b.low kind) (is_allowed b.settings b.high kind) (resets kind)
   where
     by : (a l h r : Bool)
-        → cond a (cond (l && h) outcome.Done (outcome.Refused NotAllowed))
-        (cond r outcome.Done (outcome.Refused NoReset)) ≡ outcome.Done
+        → cond a (cond (l && h) done (Err NotAllowed))
+        (cond r done (Err NoReset)) ≡ done
         → (a ≡ true → l ≡ true → h ≡ true → Goal) → (r ≡ true → Goal) → Goal
     by true true true r e f g = f refl refl refl
     by true true false r e f g = not_done NotAllowed e
@@ -145,12 +143,12 @@ module _ (model : Model) (b : Extremes) (s : State) (i : Sim model b s) where
   first-within (Act Trigger) e = absurd (false≢true e)
 
   -- either way
-  kind_within : (kind : Kind) → Storable kind → kind_refusal kind b ≡ outcome.Done → Lands model b s kind
+  kind_within : (kind : Kind) → Storable kind → kind_refusal kind b ≡ done → Lands model b s kind
   kind_within kind k e =
       kind_done b kind (Lands model b s kind) e (λ p q u. begun-within kind k p q u) (λ v. first-within kind v)
 
   kind_follows : (room : ℕ) (waiting : Bool) (kind : Kind) (one two : List ℕ) → Storable kind
-      → kind_refusal kind b ≡ outcome.Done
+      → kind_refusal kind b ≡ done
       → drops (performed room waiting kind s one two).report ≡ false
       → Follows model (kind_after model kind b) (performed room waiting kind s one two)
   kind_follows room waiting kind one two k e d =
@@ -159,13 +157,13 @@ module _ (model : Model) (b : Extremes) (s : State) (i : Sim model b s) where
       (unfold done_by kind_after in (refl, record { same = g.1.same; begun = λ z. g.1 }))
 
   parsed_follows : (room : ℕ) (waiting : Bool) (p : Parsed) (one two : List ℕ) → StorableParsed p
-      → text_refusal p b ≡ outcome.Done
+      → text_refusal p b ≡ done
       → drops (command_of room waiting p s one two).report ≡ false
       → Follows model (text_after model p b) (command_of room waiting p s one two)
   unfolding text_refusal text_after command_of
-  parsed_follows room waiting parsed.Empty one two k e d = (refl, i)
-  parsed_follows room waiting (parsed.Refused r) one two k e d = not_done _ e
-  parsed_follows room waiting (parsed.Taken c) one two k e d = kind_follows room waiting c.kind one two k e d
+  parsed_follows room waiting (Ok None) one two k e d = (refl, i)
+  parsed_follows room waiting (Err r) one two k e d = not_done _ e
+  parsed_follows room waiting (Ok (Some c)) one two k e d = kind_follows room waiting c.kind one two k e d
 
 -- ---- a line's commands
 
@@ -189,69 +187,69 @@ module _ (room : ℕ) (t : List ℕ) (ts : List (List ℕ)) (l : Line) where
 abbrev pub effect_in : ℕ → List ℕ → Line → Effect
 effect_in room t l = command_of (room - length l.out) (waits l.out) (parsed_of t) l.after l.one l.two
 
-pub step-passed : (room : ℕ) (t : List ℕ) (l : Line) → l.report.answer ≡ Passed
-    → (effect_in room t l).report ≡ outcome.Done
-    → (after_command room t l).report.answer ≡ Passed
+pub step-passed : (room : ℕ) (t : List ℕ) (l : Line) → l.report.answer ≡ passed
+    → (effect_in room t l).report ≡ done
+    → (after_command room t l).report.answer ≡ passed
 unfolding after_command after_of
 step-passed room t l e f = rw (e, f) (unfold first_of in refl)
 
-pub step-refused : (room : ℕ) (t : List ℕ) (l : Line) (r : Refusal) → l.report.answer ≡ Passed
-    → (effect_in room t l).report ≡ outcome.Refused r
-    → (after_command room t l).report.answer ≡ Refused r (l.report.count + 1)
+pub step-refused : (room : ℕ) (t : List ℕ) (l : Line) (r : Refusal) → l.report.answer ≡ passed
+    → (effect_in room t l).report ≡ Err r
+    → (after_command room t l).report.answer ≡ refused_at r (l.report.count + 1)
 unfolding after_command after_of
 step-refused room t l r e f = rw (e, f) (unfold first_of in refl)
 
 -- the first refusal stays
-pub run-refused : (room : ℕ) (ts : List (List ℕ)) (l : Line) (r : Refusal) (p : ℕ) → l.report.answer ≡ Refused r p
-    → (run_all room ts l).report.answer ≡ Refused r p
+pub run-refused : (room : ℕ) (ts : List (List ℕ)) (l : Line) (r : Refusal) (p : ℕ) → l.report.answer ≡ refused_at r p
+    → (run_all room ts l).report.answer ≡ refused_at r p
 unfolding run_all
 run-refused room [] l r p e = e
 run-refused room (t ∷ ts) l r p e =
     by (after_command room t l).report.dropped (run-refused room ts (after_command room t l) r p step)
   where
-    step : (after_command room t l).report.answer ≡ Refused r p
+    step : (after_command room t l).report.answer ≡ refused_at r p
     step = unfold after_command after_of in rw e (unfold first_of in refl)
 
-    by : (d : Bool) → (run_all room ts (after_command room t l)).report.answer ≡ Refused r p
-        → (cond d (after_command room t l) (run_all room ts (after_command room t l))).report.answer ≡ Refused r p
+    by : (d : Bool) → (run_all room ts (after_command room t l)).report.answer ≡ refused_at r p
+        → (cond d (after_command room t l) (run_all room ts (after_command room t l))).report.answer ≡ refused_at r p
     by true q = step
     by false q = q
 
-outcome_split : (o : Outcome) (Goal : Type 0) → (o ≡ outcome.Done → Goal)
-    → ((r : Refusal) → o ≡ outcome.Refused r → Goal) → Goal
-outcome_split outcome.Done G f g = f refl
-outcome_split (outcome.Refused r) G f g = g r refl
+outcome_split : (o : Outcome) (Goal : Type 0) → (o ≡ done → Goal)
+    → ((r : Refusal) → o ≡ Err r → Goal) → Goal
+outcome_split (Ok _) G f g = f refl
+outcome_split (Err r) G f g = g r refl
 
 pub count-step : (room : ℕ) (t : List ℕ) (l : Line) → (after_command room t l).report.count ≡ l.report.count + 1
 unfolding after_command after_of
 count-step room t l = refl
 
 -- a refusal's place is behind what passed
-place_behind : (room : ℕ) (ts : List (List ℕ)) (l : Line) (r : Refusal) (p : ℕ) → l.report.answer ≡ Passed
+place_behind : (room : ℕ) (ts : List (List ℕ)) (l : Line) (r : Refusal) (p : ℕ) → l.report.answer ≡ passed
     → (run_all room ts l).report.dropped ≡ false
-    → (run_all room ts l).report.answer ≡ Refused r p → l.report.count + 1 ≤ p
+    → (run_all room ts l).report.answer ≡ refused_at r p → l.report.count + 1 ≤ p
 place_behind room [] l r p e d f =
-    let g : l.report.answer ≡ Refused r p = unfold run_all in f in
+    let g : l.report.answer ≡ refused_at r p = unfold run_all in f in
     not-passed r p (sym g ∙ e)
 place_behind room (t ∷ ts) l r p e d f =
     let next = after_command room t l in
     let rest = run_rest room t ts l d in
-    let on : (run_all room ts next).report.answer ≡ Refused r p = rw rest.1 at f in
+    let on : (run_all room ts next).report.answer ≡ refused_at r p = rw rest.1 at f in
     outcome_split (effect_in room t l).report (l.report.count + 1 ≤ p)
     (λ q.
     let n = place_behind room ts next r p (step-passed room t l e q) (rw rest.1 at d) on in
     omega (arith, n, count-step room t l))
     (λ s q.
-    let z : Refused s (l.report.count + 1) ≡ Refused r p = sym
+    let z : refused_at s (l.report.count + 1) ≡ refused_at r p = sym
     (run-refused room ts next s (l.report.count + 1) (step-refused room t l s e q)) ∙ on in
-    let y : l.report.count + 1 ≡ p = cc in
+    let y : l.report.count + 1 ≡ p = told_place z in
     omega arith)
 
 -- what the check passes
 step_follows : (model : Model) (room : ℕ) (t : List ℕ) (l : Line) (b : Extremes) → Sim model b l.after
-    → text_refusal (parsed_of t) b ≡ outcome.Done
+    → text_refusal (parsed_of t) b ≡ done
     → (after_command room t l).report.dropped ≡ false
-    → ((effect_in room t l).report ≡ outcome.Done) × Sim model (text_after model (parsed_of t) b)
+    → ((effect_in room t l).report ≡ done) × Sim model (text_after model (parsed_of t) b)
     (after_command room t l).after
 unfolding after_command after_of
 step_follows model room t l b i e d =
@@ -259,9 +257,9 @@ step_follows model room t l b i e d =
     (parsed_storable t) e d
 
 pub run-passed : (model : Model) (room : ℕ) (ts : List (List ℕ)) (l : Line) (b : Extremes) → Sim model b l.after
-    → l.report.answer ≡ Passed
-    → (run_all room ts l).report.dropped ≡ false → texts_answer model (l.report.count + 1) ts b ≡ Passed
-    → ((run_all room ts l).report.answer ≡ Passed) × Sim model (texts_after model ts b) (run_all room ts l).after
+    → l.report.answer ≡ passed
+    → (run_all room ts l).report.dropped ≡ false → texts_answer model (l.report.count + 1) ts b ≡ passed
+    → ((run_all room ts l).report.answer ≡ passed) × Sim model (texts_after model ts b) (run_all room ts l).after
 unfolding texts_after
 run-passed model room [] l b i e d f = unfold run_all in (e, i)
 run-passed model room (t ∷ ts) l b i e d f =
@@ -282,9 +280,9 @@ run-passed model room (t ∷ ts) l b i e d f =
 
 -- where the check refuses one
 pub run-earlier : (model : Model) (room : ℕ) (ts : List (List ℕ)) (l : Line) (b : Extremes) (r s : Refusal) (p q : ℕ)
-    → Sim model b l.after → l.report.answer ≡ Passed
-    → (run_all room ts l).report.dropped ≡ false → texts_answer model (l.report.count + 1) ts b ≡ Refused r p
-    → (run_all room ts l).report.answer ≡ Refused s q → p ≤ q
+    → Sim model b l.after → l.report.answer ≡ passed
+    → (run_all room ts l).report.dropped ≡ false → texts_answer model (l.report.count + 1) ts b ≡ refused_at r p
+    → (run_all room ts l).report.answer ≡ refused_at s q → p ≤ q
 run-earlier model room [] l b r s p q i e d f g = not-passed r p (sym (unfold texts_answer in f))
 run-earlier model room (t ∷ ts) l b r s p q i e d f g =
     let next = after_command room t l in

@@ -13,7 +13,7 @@ use Rattle.event.specs.declared.Event.TheVariants.{Trigger, Measured}
 use Rattle.state.proofs.Sound.{sound}
 use Rattle.line.specs.Line.{start_line, line_of}
 use Rattle.line_text.specs.Texts.{texts_of}
-use Rattle.outcome.specs.declared.Answer.TheVariants.{Passed, Refused}
+use Rattle.outcome.specs.Answer.{passed, refused_at}
 use Rattle.extreme_courses.specs.Model.{OfModel}
 use Rattle.extreme_courses.specs.declared.Model.{Model}
 use Rattle.extreme_courses.specs.Extremes.{before_line, measured_high}
@@ -64,7 +64,7 @@ module _ (model : Model) (b : Extremes) (l : List ℕ) where
       → Then w room
 
   -- the line leaves the course where the check goes, or is refused in it
-  line_at : (d : Side) → line_answer model l b ≡ Passed
+  line_at : (d : Side) → line_answer model l b ≡ passed
       → Ran d (λ w room. At d model (line_after model l b) (after_line room l w).core.state)
   unfolding line_of
   line_at d e w o i room c =
@@ -73,8 +73,8 @@ module _ (model : Model) (b : Extremes) (l : List ℕ) where
       let run = start_line w.core.state w.one w.two in
       rw s.1 (at_run d model room (texts_of l) run (before_line model b) 1 i (sym s.2 ∙ c) p.1)
 
-  line-refuses : (r : Refusal) (p : ℕ) → line_answer model l b ≡ Refused r p → r ≢ NoReset → r ≢ LongScriptLine
-      → (d : Side) × Ran d (λ w room. (line_in room l w).report.answer ≡ Refused r p)
+  line-refuses : (r : Refusal) (p : ℕ) → line_answer model l b ≡ refused_at r p → r ≢ NoReset → r ≢ LongScriptLine
+      → (d : Side) × Ran d (λ w room. (line_in room l w).report.answer ≡ refused_at r p)
   unfolding line_of
   line-refuses r p e x y =
       let q = refused-short model l b r p y e in
@@ -128,7 +128,7 @@ inputs_fit d model (l ∷ ls) b =
 pub reached : (model : Model) (ls : List (List ℕ)) (b : Extremes) (k p : ℕ) (r : Refusal)
     → finding model ls b ≡ stop k p r → r ≢ NoReset → r ≢ LongScriptLine
     → (d : Side) × ((w : World) → Open w → RoomsSuffice ls (inputs_for d model ls b) w → At d model b w.core.state
-    → answer_of ls (inputs_for d model ls b) w k ≡ Refused r p)
+    → answer_of ls (inputs_for d model ls b) w k ≡ refused_at r p)
 unfolding answer_of inputs_for
 reached model [] b k p r e x y = end-stop model b k p r e
 reached model (l ∷ ls) b zero p r e x y =

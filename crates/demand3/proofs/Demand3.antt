@@ -8,13 +8,14 @@ use mathlib.Core.List.{List, [], ◌∷◌}
 use lib.Dec.{ltb}
 use lib.ListN.{length, get_or, length-replicate}
 use borrow.Author.Tests.{eq-eqb, ltb-true, ltb-false}
+use Rattle.std.specs.Prelude.{Err}
 use Rattle.laws.proofs.Tests.{split, never}
 use Rattle.outcome.specs.declared.Refusal.{Refusal}
 use Rattle.outcome.specs.declared.Refusal.TheVariants.{LongLine, NoReset, LongScriptLine, BadTraces}
-use Rattle.outcome.specs.declared.Outcome.TheVariants as outcome
-use Rattle.command.specs.declared.Parsed.{Parsed}
+use Rattle.outcome.specs.Answer.{refused_at}
+use Rattle.outcome.specs.Answer as answer
+use Rattle.command.specs.Parsed.{Parsed}
 use Rattle.state.specs.State.{start_state}
-use Rattle.outcome.specs.declared.Answer.TheVariants.{Passed, Refused}
 use Rattle.module.specs.Start.{fresh_module}
 use Rattle.module.specs.Module.{valid_module, guard_of}
 use Rattle.extreme_courses.specs.Model.{OfModel, model_fits}
@@ -151,7 +152,7 @@ finds model lines = finding model lines start_extremes
 module _ (model : Model) (lines : List (List ℕ)) where
   -- a long line answers 5 in every course
   long-answers : (ls : List (List ℕ)) (g : LineInputs ls) (w : World) → Open w → (i : ℕ) → line_too_long (get_or ls i []) ≡ true
-      → answer_of ls g w i ≡ Refused LongLine 0
+      → answer_of ls g w i ≡ refused_at LongLine 0
   unfolding answer_of
   long-answers [] g w o i e = absurd (false≢true e)
   long-answers (l ∷ ls) g w o zero e = line-long (before g.0 w) (events_open g.0.events w o) g.0.room l e
@@ -172,7 +173,7 @@ module _ (model : Model) (lines : List (List ℕ)) where
   short-every f (suc i) = short-suc i (f i)
 
   -- every course
-  course-fine : finds model lines ≡ fine → (k : Course model lines) (n : ℕ) → answers k n ≡ Passed
+  course-fine : finds model lines ≡ fine → (k : Course model lines) (n : ℕ) → answers k n ≡ answer.passed
   unfolding answers
   course-fine e k zero = refl
   course-fine e k (suc i) =
@@ -180,14 +181,14 @@ module _ (model : Model) (lines : List (List ℕ)) where
       k.rooms i (rw e tt)
 
   module _ (i p : ℕ) (r : Refusal) (e : finds model lines ≡ stop i p r) where
-    course-before : (k : Course model lines) (m : ℕ) → m < suc i → answers k m ≡ Passed
+    course-before : (k : Course model lines) (m : ℕ) → m < suc i → answers k m ≡ answer.passed
     unfolding answers
     course-before k zero h = refl
     course-before k (suc j) h =
         script-passes model lines start_extremes k.start k.inputs (course_open model lines k) (course_sim model lines k)
         k.rooms j (rw e (omega arith))
 
-    course-earlier : (k : Course model lines) (q : ℕ) (s : Refusal) → answers k (suc i) ≡ Refused s q → p ≤ q
+    course-earlier : (k : Course model lines) (q : ℕ) (s : Refusal) → answers k (suc i) ≡ refused_at s q → p ≤ q
     unfolding answers
     course-earlier k =
         script-earlier model lines start_extremes k.start k.inputs (course_open model lines k) (course_sim model lines k)
@@ -296,14 +297,15 @@ module _ (model : Model) (lines : List (List ℕ)) where
   unfolding begins_with_reset
   begins_is n p c u = rw u refl
 
-  refused-apart : (k : Course model lines) (n p : ℕ) (r : Refusal) → answers k n ≡ Refused r p → answers k n ≡ Passed
+  refused-apart : (k : Course model lines) (n p : ℕ) (r : Refusal) → answers k n ≡ refused_at r p
+      → answers k n ≡ answer.passed
       → ⊥
   refused-apart k n p r e f = not-passed r p (sym e ∙ f)
 
   module _ (fits : model_fits model ≡ true) where
     -- where the check stops after *RST, some course is refused
     stop-refused : (i p : ℕ) (r : Refusal) → finds model lines ≡ stop i p r → r ≢ NoReset
-        → ((k : Course model lines) → answers k (suc i) ≡ Passed) → ⊥
+        → ((k : Course model lines) → answers k (suc i) ≡ answer.passed) → ⊥
     unfolding answers
     stop-refused i p r e n f =
         stop_split model lines start_extremes i p r ⊥ e
@@ -466,10 +468,10 @@ module _ (model : Model) (script : List ℕ) where
 
   nine_case : (n p : ℕ)
       → (check_of model script ≡ No n p BadTraces)
-      ↔ (StartAnswers model (outcome.Refused BadTraces) × (n ≡ 0) × (p ≡ 0))
+      ↔ (StartAnswers model (Err BadTraces) × (n ≡ 0) × (p ≡ 0))
   nine_case n p = (
     (λ e.
-        by_model (No n p BadTraces) (StartAnswers model (outcome.Refused BadTraces) × (n ≡ 0) × (p ≡ 0)) e
+        by_model (No n p BadTraces) (StartAnswers model (Err BadTraces) × (n ≡ 0) × (p ≡ 0)) e
         (λ h f. absurd (found_nine model (lines_of script) n p f))
         (λ h f. (unfit_start model h, cc, cc))),
     (λ a. check_unfit model script (start_unfit model a.0) ∙ rw (a.1, a.2) refl),

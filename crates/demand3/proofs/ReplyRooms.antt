@@ -7,6 +7,7 @@ use mathlib.Core.List.{List, [], ◌∷◌}
 use lib.Dec.{leb, ltb, eqb}
 use lib.ListN.{length, length-append, get_or-eq_default}
 use borrow.Author.Tests.{ne_eqb, le-leb, leb-true, ltb-true, ltb-false}
+use Rattle.std.specs.Prelude.{Some, None, Ok, Err}
 use Rattle.outcome.specs.Code.{code_of}
 use Rattle.outcome.specs.declared.Refusal.{Refusal}
 use Rattle.outcome.specs.declared.Refusal.TheVariants.{NotAllowed, NoRoom, LongLine}
@@ -30,13 +31,11 @@ use Rattle.mnemonic.specs.declared.Register.TheVariants.{Standard, Service, Lia,
 use Rattle.line_text.specs.Clean.{cleaned}
 use Rattle.line_text.specs.Texts.{semicolon, texts_of}
 use Rattle.line_text.proofs.Bound.{cleaned-length}
-use Rattle.command.specs.Parsed.{parsed_of}
+use Rattle.command.specs.Parsed.{Parsed, parsed_of}
 use Rattle.command.specs.declared.QueryArgument.{QueryArgument}
 use Rattle.command.specs.declared.QueryArgument.TheVariants as query
 use Rattle.command.specs.declared.Kind.{Kind}
 use Rattle.command.specs.declared.Kind.TheVariants.{Set, Query, Act}
-use Rattle.command.specs.declared.Parsed.{Parsed}
-use Rattle.command.specs.declared.Parsed.TheVariants.{Empty, Taken, Refused}
 use Rattle.state.specs.Valid.{installation_valid, valid_state}
 use Rattle.state.specs.declared.State.{State}
 use Rattle.precondition.specs.Allowed.{query_allowed, is_allowed}
@@ -181,10 +180,10 @@ record Fits (e : Effect) : Type 0 where
 command-fits : (room : ℕ) (waiting : Bool) (p : Parsed) (s : State) (one two : List ℕ) → StorableParsed p
     → valid_state s ≡ true → Sized s → most ≤ room → Fits (command_of room waiting p s one two)
 unfolding command_of performed fits_in drops
-command-fits room waiting Empty s one two c a k h = record { kept = refl; short = omega arith; sized = k }
-command-fits room waiting (Refused r) s one two c a k h =
+command-fits room waiting (Ok None) s one two c a k h = record { kept = refl; short = omega arith; sized = k }
+command-fits room waiting (Err r) s one two c a k h =
     record { kept = small r c; short = omega arith; sized = marked_sized r s k }
-command-fits room waiting (Taken c) s one two n a k h = by (is_allowed s.settings s.acquisition c.kind) refl where
+command-fits room waiting (Ok (Some c)) s one two n a k h = by (is_allowed s.settings s.acquisition c.kind) refl where
   reply : List ℕ
   reply = reply_of c.kind s waiting one two
 

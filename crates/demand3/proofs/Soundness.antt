@@ -7,17 +7,17 @@ use mathlib.Core.Path.{◌≡◌, refl, sym, ap, ◌∙◌}
 use mathlib.Core.List.{List, [], ◌∷◌}
 use lib.ListN.{length}
 use borrow.Author.Tests.{ltb-true, ltb-false, le-leb, lt-leb}
+use Rattle.std.specs.Prelude.{Err}
 use Rattle.outcome.specs.declared.Refusal.{Refusal}
 use Rattle.outcome.specs.declared.Refusal.TheVariants.{LongLine, BadState}
-use Rattle.outcome.specs.declared.Outcome.{Outcome}
-use Rattle.outcome.specs.declared.Outcome.TheVariants as outcome
+use Rattle.outcome.specs.Code.{Outcome, done}
+use Rattle.outcome.specs.Answer.{passed, refused_at}
 use Rattle.state.specs.Valid.{valid_state}
 use Rattle.state.specs.declared.State.{State}
 use Rattle.event.specs.Event.{event_of}
 use Rattle.event.specs.declared.Event.{Event}
 use Rattle.line.specs.Line.{Line, start_line, line_of}
 use Rattle.line_text.specs.Texts.{texts_of}
-use Rattle.outcome.specs.declared.Answer.TheVariants.{Passed, Refused}
 use Rattle.module.specs.Module.{valid_module, guard_of}
 use Rattle.lockin.specs.Calls.{guarded, line_end, whole_end, whole_line, line_call, event_call}
 use Rattle.extreme_courses.specs.declared.Model.{Model}
@@ -36,12 +36,12 @@ use Rattle.queue.specs.Queue.{line_limit}
 
 -- neither 11 nor 9 refuses a call
 abbrev pub Open : World → Type 0
-Open w = guard_of w.core (length w.one) (length w.two) ≡ outcome.Done
+Open w = guard_of w.core (length w.one) (length w.two) ≡ done
 
 pub open_valid : (w : World) → Open w → valid_state w.core.state ≡ true
 unfolding guard_of valid_module
 open_valid w o = ((and-eq-true_iff (valid_state w.core.state) _).0 (by (valid_module w.core) _ o)).0 where
-  by : (t : Bool) (u : Outcome) → cond t u (outcome.Refused BadState) ≡ outcome.Done → t ≡ true
+  by : (t : Bool) (u : Outcome) → cond t u (Err BadState) ≡ done → t ≡ true
   by true u e = refl
   by false u e = not_done BadState e
 
@@ -66,7 +66,8 @@ module _ (w : World) (o : Open w) where
   unfolding after_line line_call guarded whole_line whole_end line_end room_too_small
   line-short room l e = rw (o, le-leb (length l) line_limit (ltb-false line_limit (length l) e)) (refl, refl, refl)
 
-  pub line-long : (room : ℕ) (l : List ℕ) → line_too_long l ≡ true → (line_in room l w).report.answer ≡ Refused LongLine 0
+  pub line-long : (room : ℕ) (l : List ℕ) → line_too_long l ≡ true
+      → (line_in room l w).report.answer ≡ refused_at LongLine 0
   unfolding line_call guarded whole_line whole_end line_end
   line-long room l e = rw (o, lt-leb (length l) line_limit (ltb-true line_limit (length l) e)) refl
 
@@ -123,8 +124,8 @@ module _ (model : Model) (b : Extremes) (w : World) (o : Open w) (i : Sim model 
     sim_before : Sim model (before_line model b) begin.after
     sim_before = sim_event model b g.events w o i
 
-    next-passed : line_answer model l b ≡ Passed
-        → ((line_in g.room l (before g w)).report.answer ≡ Passed)
+    next-passed : line_answer model l b ≡ passed
+        → ((line_in g.room l (before g w)).report.answer ≡ passed)
         × Sim model (line_after model l b) (after g l w).core.state
     unfolding line_of
     next-passed e =
@@ -133,8 +134,8 @@ module _ (model : Model) (b : Extremes) (w : World) (o : Open w) (i : Sim model 
         rw (s.0, s.1)
         (run-passed model g.room (texts_of l) begin (before_line model b) sim_before refl (sym s.2 ∙ c) p.1)
 
-    next-earlier : (r s : Refusal) (p q : ℕ) → line_answer model l b ≡ Refused r p
-        → (line_in g.room l (before g w)).report.answer ≡ Refused s q → p ≤ q
+    next-earlier : (r s : Refusal) (p q : ℕ) → line_answer model l b ≡ refused_at r p
+        → (line_in g.room l (before g w)).report.answer ≡ refused_at s q → p ≤ q
     unfolding line_of
     next-earlier r s p q e f =
         refused_split model l b r p (p ≤ q) e (λ t z y. omega arith)
@@ -146,7 +147,8 @@ module _ (model : Model) (b : Extremes) (w : World) (o : Open w) (i : Sim model 
 -- ---- scripts
 
 pub script-passes : (model : Model) (ls : List (List ℕ)) (b : Extremes) (w : World) (g : LineInputs ls) → Open w
-    → Sim model b w.core.state → RoomsSuffice ls g w → (n : ℕ) → Passes (finding model ls b) n → answer_of ls g w n ≡ Passed
+    → Sim model b w.core.state → RoomsSuffice ls g w → (n : ℕ) → Passes (finding model ls b) n
+    → answer_of ls g w n ≡ passed
 unfolding answer_of
 script-passes model [] b w g o i c n h = refl
 script-passes model (l ∷ ls) b w g o i c zero h =
@@ -158,7 +160,7 @@ script-passes model (l ∷ ls) b w g o i c (suc n) h =
 
 pub script-earlier : (model : Model) (ls : List (List ℕ)) (b : Extremes) (w : World) (g : LineInputs ls) → Open w
     → Sim model b w.core.state → RoomsSuffice ls g w → (k p : ℕ) (r : Refusal) → finding model ls b ≡ stop k p r
-    → (q : ℕ) (s : Refusal) → answer_of ls g w k ≡ Refused s q → p ≤ q
+    → (q : ℕ) (s : Refusal) → answer_of ls g w k ≡ refused_at s q → p ≤ q
 unfolding answer_of
 script-earlier model [] b w g o i c k p r e q s f = not-passed s q (sym f)
 script-earlier model (l ∷ ls) b w g o i c zero p r e q s f =

@@ -7,8 +7,9 @@ use mathlib.Core.List.{List, [], ◌∷◌}
 use lib.Dec.{leb, ltb}
 use lib.ListN.{replicate}
 use borrow.Author.Tests.{eq-eqb, leb-true, ltb-true}
+use Rattle.std.specs.Prelude.{Err}
 use Rattle.outcome.specs.declared.Refusal.TheVariants.{BadTraces}
-use Rattle.outcome.specs.declared.Outcome.TheVariants.{Done, Refused}
+use Rattle.outcome.specs.Code.{done}
 use Rattle.settings.specs.Table.{table, start_settings}
 use Rattle.state.specs.State.{start_state}
 use Rattle.state.specs.declared.Installation.{Installation as ModuleUnit}
@@ -27,7 +28,7 @@ use Rattle.queue.specs.Queue.{line_limit}
 
 module _ (model : Model) where
   -- the one answer that a model has, legal or not
-  answer_is : (t : Bool) → model_fits model ≡ t → StartAnswers model (cond t Done (Refused BadTraces))
+  answer_is : (t : Bool) → model_fits model ≡ t → StartAnswers model (cond t done (Err BadTraces))
   unfolding start_call traces_fit
   answer_is true e serial port k = rw (k, eq-eqb model.capacity model.capacity refl, e) refl
   answer_is false e serial port k = rw (k, eq-eqb model.capacity model.capacity refl, e) refl
@@ -35,7 +36,7 @@ module _ (model : Model) where
   pub fits-start : model_fits model ≡ true → Startable model
   fits-start e = answer_is true e
 
-  pub unfit_start : model_fits model ≡ false → StartAnswers model (Refused BadTraces)
+  pub unfit_start : model_fits model ≡ false → StartAnswers model (Err BadTraces)
   unfit_start e = answer_is false e
 
   -- serial number 0 and GPIB are taken
@@ -44,7 +45,7 @@ module _ (model : Model) where
   known = refl
 
   -- so the answer tells which it is
-  answers-apart : Startable model → StartAnswers model (Refused BadTraces) → ⊥
+  answers-apart : Startable model → StartAnswers model (Err BadTraces) → ⊥
   answers-apart s u = not_done BadTraces (sym (u 0 1 known) ∙ s 0 1 known)
 
   pub start_fits : Startable model → model_fits model ≡ true
@@ -53,7 +54,7 @@ module _ (model : Model) where
     by true e = refl
     by false e = absurd (answers-apart s (unfit_start e))
 
-  pub start_unfit : StartAnswers model (Refused BadTraces) → model_fits model ≡ false
+  pub start_unfit : StartAnswers model (Err BadTraces) → model_fits model ≡ false
   start_unfit u = by (model_fits model) refl where
     by : (t : Bool) → model_fits model ≡ t → t ≡ false
     by true e = absurd (answers-apart (fits-start e) u)

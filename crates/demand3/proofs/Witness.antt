@@ -9,18 +9,17 @@ use mathlib.Core.Logic.{◌≢◌}
 use mathlib.Core.List.{List, [], ◌∷◌}
 use lib.ListN.{length}
 use borrow.Author.Tests.{le-leb}
+use Rattle.std.specs.Prelude.{Err, Some, None, Ok}
 use Rattle.outcome.specs.declared.Refusal.{Refusal}
 use Rattle.outcome.specs.declared.Refusal.TheVariants.{NotAllowed, NoReset}
-use Rattle.outcome.specs.declared.Outcome.TheVariants as outcome
+use Rattle.outcome.specs.Code.{Outcome, done}
 use Rattle.settings.specs.Table.{fmod, harm, value_of}
 use Rattle.settings.specs.Frequency.{is_internal}
 use Rattle.settings.specs.Valid.{values_valid}
 use Rattle.settings.specs.declared.Settings.{Settings}
-use Rattle.command.specs.Parsed.{parsed_of}
+use Rattle.command.specs.Parsed.{Parsed, parsed_of}
 use Rattle.command.specs.declared.Kind.{Kind}
 use Rattle.command.specs.declared.Kind.TheVariants.{Set, Query, Act}
-use Rattle.command.specs.declared.Parsed.{Parsed}
-use Rattle.command.specs.declared.Parsed.TheVariants as parsed
 use Rattle.state.specs.State.{at_frequency, range_settled, settled}
 use Rattle.state.specs.Storing.{trigger_of, sampled_by}
 use Rattle.state.specs.declared.Acquisition.{Acquisition}
@@ -28,9 +27,8 @@ use Rattle.state.specs.declared.State.{State}
 use Rattle.precondition.specs.Allowed.{is_allowed}
 use Rattle.effect.specs.Effect.{settings_after, acquisition_after, state_after}
 use Rattle.line.specs.Perform.{done_by, performed, command_of}
-use Rattle.outcome.specs.Answer.{drops}
+use Rattle.outcome.specs.Answer.{drops, passed, refused_at}
 use Rattle.line.specs.Line.{Line, waits, after_of, after_command, run_all}
-use Rattle.outcome.specs.declared.Answer.TheVariants.{Passed, Refused}
 use Rattle.event.specs.Event.{takes_frequency, with_external, measured_by, sampled_in, event_of}
 use Rattle.event.specs.declared.Event.{Event}
 use Rattle.event.specs.declared.Event.TheVariants.{Trigger, Measured}
@@ -82,7 +80,7 @@ both_sides low b kind l h = l
 both_sides high b kind l h = h
 
 -- what the check passes, that course passes
-side_allows : (d : Side) (b : Extremes) (kind : Kind) → kind_refusal kind b ≡ outcome.Done
+side_allows : (d : Side) (b : Extremes) (kind : Kind) → kind_refusal kind b ≡ done
     → is_allowed b.settings (side d b) kind ≡ true
 side_allows d b kind e =
     kind_done b kind (is_allowed b.settings (side d b) kind ≡ true) e (λ p l h. both_sides d b kind l h)
@@ -114,15 +112,15 @@ module _ (d : Side) (model : Model) (b : Extremes) (s : State) (i : At d model b
             ∙ (rw (i.same.capacity, i.acquisition) (sym (side_after d model kind b))));
       }
 
-  at_parsed : (room : ℕ) (waiting : Bool) (p : Parsed) (one two : List ℕ) → text_refusal p b ≡ outcome.Done
+  at_parsed : (room : ℕ) (waiting : Bool) (p : Parsed) (one two : List ℕ) → text_refusal p b ≡ done
       → drops (command_of room waiting p s one two).report ≡ false
-      → ((command_of room waiting p s one two).report ≡ outcome.Done)
+      → ((command_of room waiting p s one two).report ≡ done)
       × At d model (text_after model p b) (command_of room waiting p s one two).after
   unfolding text_refusal text_after command_of
-  at_parsed room waiting parsed.Empty one two e f = (refl, i)
-  at_parsed room waiting (parsed.Refused r) one two e f = not_done _ e
-  at_parsed room waiting (parsed.Taken c) one two e f =
-      valid-done (λ t. (t.report ≡ outcome.Done) × At d model (kind_after model c.kind b) t.after) room waiting
+  at_parsed room waiting (Ok None) one two e f = (refl, i)
+  at_parsed room waiting (Err r) one two e f = not_done _ e
+  at_parsed room waiting (Ok (Some c)) one two e f =
+      valid-done (λ t. (t.report ≡ done) × At d model (kind_after model c.kind b) t.after) room waiting
       c.kind s one two
       (state_allows c.kind ∙ side_allows d b c.kind e) f (unfold done_by in (refl, at_after c.kind))
 
@@ -130,35 +128,35 @@ module _ (d : Side) (model : Model) (b : Extremes) (s : State) (i : At d model b
 abbrev Refuses : Model → Extremes → Parsed → Refusal → Side → Type 0
 Refuses model b p r d =
     (s : State) → At d model b s → (room : ℕ) (waiting : Bool) (one two : List ℕ)
-    → (command_of room waiting p s one two).report ≡ outcome.Refused r
+    → (command_of room waiting p s one two).report ≡ Err r
 
 not_allowed_lem : (model : Model) (b : Extremes) (c : Kind) (d : Side) → is_allowed b.settings (side d b) c ≡ false
-    → Refuses model b (parsed.Taken (record { kind = c })) NotAllowed d
+    → Refuses model b (Ok (Some (record { kind = c }))) NotAllowed d
 unfolding command_of performed
 not_allowed_lem model b c d e s i room waiting one two = rw (state_allows d model b s i c ∙ e) refl
 
-pub refused-same : (r s : Refusal) → outcome.Refused r ≡ outcome.Refused s → r ≡ s
+pub refused-same : (r s : Refusal) → ◌≡◌ {A = Outcome} (Err r) (Err s) → r ≡ s
 refused-same r s e = cc
 
-parsed_refuses : (model : Model) (b : Extremes) (p : Parsed) (r : Refusal) → text_refusal p b ≡ outcome.Refused r
+parsed_refuses : (model : Model) (b : Extremes) (p : Parsed) (r : Refusal) → text_refusal p b ≡ Err r
     → r ≢ NoReset
     → (d : Side) × Refuses model b p r d
 unfolding text_refusal
-parsed_refuses model b parsed.Empty r e n = not_done r (sym e)
-parsed_refuses model b (parsed.Refused q) r e n = (low, by b.begun (refused-same _ _ e)) where
-  by : (t : Bool) → cond t q NoReset ≡ r → Refuses model b (parsed.Refused q) r low
-  by true z s i room waiting one two = unfold command_of in ap (λ (x : Refusal). outcome.Refused x) z
+parsed_refuses model b (Ok None) r e n = not_done r (sym e)
+parsed_refuses model b (Err q) r e n = (low, by b.begun (refused-same _ _ e)) where
+  by : (t : Bool) → cond t q NoReset ≡ r → Refuses model b (Err q) r low
+  by true z s i room waiting one two = unfold command_of in ap (λ (x : Refusal). Err x) z
   by false z s i room waiting one two = absurd (n (sym z))
-parsed_refuses model b (parsed.Taken c) r e n =
+parsed_refuses model b (Ok (Some c)) r e n =
     by b.begun (is_allowed b.settings b.low c.kind) (is_allowed b.settings b.high c.kind)
     (resets c.kind) refl refl
     (unfold kind_refusal in e)
   where
     by : (a l h t : Bool) → is_allowed b.settings b.low c.kind ≡ l
         → is_allowed b.settings b.high c.kind ≡ h
-        → cond a (cond (l && h) outcome.Done (outcome.Refused NotAllowed))
-        (cond t outcome.Done (outcome.Refused NoReset)) ≡ outcome.Refused r
-        → (d : Side) × Refuses model b (parsed.Taken c) r d
+        → cond a (cond (l && h) done (Err NotAllowed))
+        (cond t done (Err NoReset)) ≡ Err r
+        → (d : Side) × Refuses model b (Ok (Some c)) r d
     by true false h t p q z =
         (low, λ s i room waiting one two. not_allowed_lem model b c.kind low p s i room waiting one two ∙ z)
     by true true false t p q z =
@@ -170,9 +168,9 @@ parsed_refuses model b (parsed.Taken c) r e n =
 -- ---- a line's commands
 
 at_step : (d : Side) (model : Model) (room : ℕ) (t : List ℕ) (l : Line) (b : Extremes) → At d model b l.after
-    → text_refusal (parsed_of t) b ≡ outcome.Done
+    → text_refusal (parsed_of t) b ≡ done
     → (after_command room t l).report.dropped ≡ false
-    → ((effect_in room t l).report ≡ outcome.Done) × At d model (text_after model (parsed_of t) b)
+    → ((effect_in room t l).report ≡ done) × At d model (text_after model (parsed_of t) b)
     (after_command room t l).after
 unfolding after_command after_of
 at_step d model room t l b i e f =
@@ -180,7 +178,7 @@ at_step d model room t l b i e f =
 
 pub at_run : (d : Side) (model : Model) (room : ℕ) (ts : List (List ℕ)) (l : Line) (b : Extremes) (p : ℕ)
     → At d model b l.after
-    → (run_all room ts l).report.dropped ≡ false → texts_answer model p ts b ≡ Passed
+    → (run_all room ts l).report.dropped ≡ false → texts_answer model p ts b ≡ passed
     → At d model (texts_after model ts b) (run_all room ts l).after
 unfolding texts_after
 at_run d model room [] l b p i c e = unfold run_all in i
@@ -194,12 +192,12 @@ at_run d model room (t ∷ ts) l b p i c e =
 
 abbrev RunRefuses : Model → Extremes → ℕ → List (List ℕ) → Refusal → ℕ → Side → Type 0
 RunRefuses model b n ts r p d =
-    (room : ℕ) (l : Line) → l.report.count ≡ n → l.report.answer ≡ Passed → At d model b l.after
+    (room : ℕ) (l : Line) → l.report.count ≡ n → l.report.answer ≡ passed → At d model b l.after
     → (run_all room ts l).report.dropped ≡ false
-    → (run_all room ts l).report.answer ≡ Refused r p
+    → (run_all room ts l).report.answer ≡ refused_at r p
 
 pub run-refuses : (model : Model) (b : Extremes) (n : ℕ) (ts : List (List ℕ)) (r : Refusal) (p : ℕ)
-    → texts_answer model (n + 1) ts b ≡ Refused r p
+    → texts_answer model (n + 1) ts b ≡ refused_at r p
     → r ≢ NoReset → (d : Side) × RunRefuses model b n ts r p d
 run-refuses model b n [] r p e z = not-passed r p (sym (unfold texts_answer in e))
 run-refuses model b n (t ∷ ts) r p e z =
@@ -225,7 +223,7 @@ run-refuses model b n (t ∷ ts) r p e z =
           let k = step-refused room t l r a
           (w.1 l.after i (room - length l.out) (waits l.out) l.one l.two) in
           rw rest.1 (run-refused room ts (after_command room t l) r p
-          (k ∙ ap (λ (x : ℕ). Refused r x) (ap (λ (x : ℕ). x + 1) m ∙ g))),
+          (k ∙ ap (λ (x : ℕ). refused_at r x) (ap (λ (x : ℕ). x + 1) m ∙ g))),
     ))
 
 -- ---- its events

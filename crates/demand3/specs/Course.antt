@@ -4,10 +4,8 @@ use Rattle.std.specs.Prelude.{ℕ, zero, suc, Bool, true, false, cond, ◌≡◌
 use Rattle.event.specs.declared.Event.{Event}
 use Rattle.queue.specs.Queue.{line_limit}
 use Rattle.line.specs.Line.{line_of}
-use Rattle.outcome.specs.declared.Outcome.{Outcome}
-use Rattle.outcome.specs.declared.Outcome.TheVariants.{Done}
-use Rattle.outcome.specs.declared.Answer.{Answer}
-use Rattle.outcome.specs.declared.Answer.TheVariants.{Passed}
+use Rattle.outcome.specs.Code.{Outcome, done}
+use Rattle.outcome.specs.Answer.{Answer, passed}
 use Rattle.module.specs.Start.{installation_known}
 use Rattle.lockin.specs.Start.{start_call}
 use Rattle.module.specs.Module.{valid_module}
@@ -39,7 +37,7 @@ StartAnswers model o =
 
 -- §1.2: a module of the model can be started
 abbrev pub Startable : Model → Type 0
-Startable model = StartAnswers model Done
+Startable model = StartAnswers model done
 
 -- §1.2: a module as the start makes it, with serial number 0 and port GPIB, and two traces with all words 0
 unfoldable pub fresh_world : Model → World
@@ -135,11 +133,11 @@ pub record Course (model : Model) (lines : List (List ℕ)) : Type 0 where
 
 -- §2.7: the answer of the line at an index, counted from 0
 unfoldable pub answer_of : (ls : List (List ℕ)) → LineInputs ls → World → ℕ → Answer
-answer_of [] g w i = Passed
+answer_of [] g w i = passed
 answer_of (l ∷ ls) g w zero = (line_in g.0.room l (before g.0 w)).report.answer
 answer_of (l ∷ ls) g w (suc i) = answer_of ls g.1 (after g.0 l w) i
 
 -- §2.7: the answer of line n of a course, counted from 1
 unfoldable pub answers : {model : Model} {lines : List (List ℕ)} → Course model lines → ℕ → Answer
-answers k zero = Passed
+answers k zero = passed
 answers {model} {lines} k (suc i) = answer_of lines k.inputs k.start i

@@ -5,14 +5,13 @@
 -- empty one does not (crates/examples/specs/Scripts.antt). As wrong programs these two are always_no and always_yes of
 -- crates/script/must-fail. Wrong statements of demand 3 are in crates/demand3/must-fail.
 use Rattle.std.specs.Prelude.{ℕ, zero, suc, ◌+◌, ◌≤◌, ◌<◌, Bool, true, false, ◌≡◌, ◌≢◌, ◌↔◌, List, [], ◌∷◌, get_or}
+use Rattle.std.specs.Prelude.{Err, Some, None, Ok}
 use Rattle.outcome.specs.declared.Refusal.{Refusal}
 use Rattle.outcome.specs.declared.Refusal.TheVariants.{NoReset, LongScriptLine, BadTraces}
-use Rattle.outcome.specs.declared.Outcome.TheVariants as outcome
-use Rattle.command.specs.Parsed.{parsed_of}
-use Rattle.command.specs.declared.Parsed.{Parsed}
-use Rattle.command.specs.declared.Parsed.TheVariants.{Empty, Taken, Refused}
+use Rattle.outcome.specs.Answer.{refused_at}
+use Rattle.outcome.specs.Answer as answer
+use Rattle.command.specs.Parsed.{parsed_of, Parsed}
 use Rattle.line_text.specs.Texts.{texts_of}
-use Rattle.outcome.specs.declared.Answer.TheVariants as answer
 use Rattle.extreme_courses.specs.Extremes.{resets}
 use Rattle.extreme_courses.specs.declared.Model.{Model}
 use Rattle.script.specs.Check.{line_too_long, lines_of, check_of}
@@ -37,9 +36,9 @@ pub data FirstCommand : Type 0 where
 
 -- §2.6: a command at a line and a place, and what comes later; an empty one keeps its place
 unfoldable pub first_command_by : Parsed → ℕ → ℕ → FirstCommand → FirstCommand
-first_command_by Empty line place later = later
-first_command_by (Refused r) line place later = first line place (Refused r)
-first_command_by (Taken c) line place later = first line place (Taken c)
+first_command_by (Ok None) line place later = later
+first_command_by (Err r) line place later = first line place (Err r)
+first_command_by (Ok (Some c)) line place later = first line place (Ok (Some c))
 
 -- §13.4: the first among the commands of a line, from a place on
 unfoldable pub first_command_in : ℕ → ℕ → List (List ℕ) → FirstCommand
@@ -62,9 +61,9 @@ first_command lines = first_command_from 1 lines
 
 -- §13.4: a command is *RST, with no argument and no question mark
 unfoldable pub is_rst_command : Parsed → Bool
-is_rst_command Empty = false
-is_rst_command (Refused r) = false
-is_rst_command (Taken c) = resets c.kind
+is_rst_command (Ok None) = false
+is_rst_command (Err r) = false
+is_rst_command (Ok (Some c)) = resets c.kind
 
 -- §13.4: a script begins with *RST: the first command that is not empty is it
 unfoldable pub begins_with_reset : FirstCommand → Bool
@@ -75,7 +74,7 @@ begins_with_reset (first line place c) = is_rst_command c
 
 -- §13.8: in every course all lines before line n answer 0
 abbrev pub PassedBefore : Model → List (List ℕ) → ℕ → Type 0
-PassedBefore model lines n = (k : Course model lines) (m : ℕ) → m < n → answers k m ≡ answer.Passed
+PassedBefore model lines n = (k : Course model lines) (m : ℕ) → m < n → answers k m ≡ answer.passed
 
 -- §13.7: yes: in every course every line answers 0; with it, a module of the model can be started (§13.2), no line is
 -- over 256 bytes (§13.3) and the script begins with *RST (§13.4).
@@ -83,7 +82,7 @@ pub record AllPass (model : Model) (lines : List (List ℕ)) : Type 0 where
   pub startable : Startable model
   pub begun : begins_with_reset (first_command lines) ≡ true
   pub short : (n : ℕ) → Short lines n
-  pub passed : (k : Course model lines) (n : ℕ) → answers k n ≡ answer.Passed
+  pub passed : (k : Course model lines) (n : ℕ) → answers k n ≡ answer.passed
 
 -- §13.8: no, at a command and by another number than 7: in some course, which starts from a fresh module, line n is
 -- answered by this refusal at this place; whatever the course, the lines up to n pass and n has no refusal at an
@@ -91,9 +90,9 @@ pub record AllPass (model : Model) (lines : List (List ℕ)) : Type 0 where
 pub record FirstRefused (model : Model) (lines : List (List ℕ)) (n place : ℕ) (r : Refusal) : Type 0 where
   pub witness : Course model lines
   pub fresh : witness.start ≡ fresh_world model
-  pub refuses : answers witness n ≡ answer.Refused r place
+  pub refuses : answers witness n ≡ refused_at r place
   pub before : PassedBefore model lines n
-  pub earlier : (k : Course model lines) (q : ℕ) (s : Refusal) → answers k n ≡ answer.Refused s q → place ≤ q
+  pub earlier : (k : Course model lines) (q : ℕ) (s : Refusal) → answers k n ≡ refused_at s q → place ≤ q
 
 -- §12.7 and §13.4: 7: the first command that is not empty is another than *RST, and no line up to it is over 256 bytes;
 -- or every command of the script is empty, which is said at line 1, place 1
@@ -127,6 +126,6 @@ pub record Demand3 (model : Model) (script : List ℕ) : Type 0 where
   -- §13.2: 9, at line 0 and place 0: the start refuses traces of the capacity by 9 (§12.9)
   pub nine : (n place : ℕ)
       → (check_of model script ≡ No n place BadTraces)
-      ↔ (StartAnswers model (outcome.Refused BadTraces) × (n ≡ 0) × (place ≡ 0))
+      ↔ (StartAnswers model (Err BadTraces) × (n ≡ 0) × (place ≡ 0))
   -- §13.9: there are courses to speak of, from a fresh module
   pub course : Startable model → (k : Course model (lines_of script)) × (k.start ≡ fresh_world model)

@@ -29,8 +29,7 @@ fn set_in(s: Settings, a: SetArgument) -> Settings
     match a {
         SetArgument::Value(entry, value) => settings::with_value(s, entry, value),
         SetArgument::Pair(entry, first, second) => pair_in(s, entry, first, second),
-        SetArgument::Enable(_, _) => s,
-        SetArgument::EnableBit(_, _, _) => s,
+        SetArgument::Enable(_, _) | SetArgument::EnableBit(_, _, _) => s,
     }
 }
 
@@ -38,24 +37,14 @@ fn set_in(s: Settings, a: SetArgument) -> Settings
 pub fn is_rst(a: Action) -> bool
     ensures { result ≡ is_rst a }
 {
-    match a {
-        Action::Reset => true,
-        Action::Clear => false,
-        Action::Start => false,
-        Action::Pause => false,
-        Action::Empty => false,
-        Action::Trigger => false,
-    }
+    a == Action::Reset
 }
 
 // The settings after an action.
 fn restored(s: Settings, a: Action) -> Settings
     ensures { result ≡ restored_by a s }
 {
-    if is_rst(a) {
-        return Settings::start();
-    }
-    s
+    if is_rst(a) { Settings::start() } else { s }
 }
 
 // The settings after a command, but for what the frequency range does to the time constant.
@@ -85,11 +74,10 @@ fn storage_by(s: Storage, capacity: u32, by: Sampling, a: Action) -> StorageStep
     ensures { result ≡ storage_by a s capacity by }
 {
     match a {
-        Action::Reset => unstored(storage::emptied()),
+        Action::Reset | Action::Empty => unstored(storage::emptied()),
         Action::Clear => unstored(s),
         Action::Start => unstored(storage::started(s)),
         Action::Pause => unstored(storage::paused(s)),
-        Action::Empty => unstored(storage::emptied()),
         Action::Trigger => storage::triggered(s, capacity, by),
     }
 }
@@ -99,8 +87,7 @@ pub fn storage_after(s: Settings, m: Acquisition, capacity: u32, kind: Kind) -> 
     ensures { result ≡ storage_after kind s m capacity }
 {
     match kind {
-        Kind::Set(_) => unstored(m.storage),
-        Kind::Query(_) => unstored(m.storage),
+        Kind::Set(_) | Kind::Query(_) => unstored(m.storage),
         Kind::Act(a) => storage_by(m.storage, capacity, state::sampling_of(s), a),
     }
 }
@@ -109,10 +96,7 @@ pub fn storage_after(s: Settings, m: Acquisition, capacity: u32, kind: Kind) -> 
 fn restarted(m: Acquisition, a: Action) -> Acquisition
     ensures { result ≡ restarted_by a m }
 {
-    if is_rst(a) {
-        return Acquisition::start();
-    }
-    m
+    if is_rst(a) { Acquisition::start() } else { m }
 }
 
 // The acquisition after an action that leaves these settings.
@@ -120,9 +104,8 @@ fn acquisition_by(s: Settings, m: Acquisition, capacity: u32, a: Action) -> Acqu
     ensures { result ≡ acquisition_by a s m capacity }
 {
     let p = storage_by(m.storage, capacity, state::sampling_of(s), a);
-    let storage = p.storage;
     let mut t = restarted(m, a);
-    t.storage = storage;
+    t.storage = p.storage;
     t
 }
 
@@ -144,13 +127,13 @@ fn registers_asked(r: Registers, q: QueryArgument) -> Registers
     match q {
         QueryArgument::Status(which) => status::cleared(r, which),
         QueryArgument::StatusBit(which, bit) => status::bit_cleared(r, which, bit),
-        QueryArgument::Value(_) => r,
-        QueryArgument::Pair(_) => r,
-        QueryArgument::Enable(_) => r,
-        QueryArgument::EnableBit(_, _) => r,
-        QueryArgument::Identity => r,
-        QueryArgument::Points => r,
-        QueryArgument::Trace(_, _, _, _) => r,
+        QueryArgument::Value(_)
+        | QueryArgument::Pair(_)
+        | QueryArgument::Enable(_)
+        | QueryArgument::EnableBit(_, _)
+        | QueryArgument::Identity
+        | QueryArgument::Points
+        | QueryArgument::Trace(_, _, _, _) => r,
     }
 }
 
@@ -163,8 +146,7 @@ fn enables_set(e: Enables, a: SetArgument) -> Enables
         SetArgument::EnableBit(which, bit, value) => {
             status::with_enable_bit(e, which, bit, value)
         }
-        SetArgument::Value(_, _) => e,
-        SetArgument::Pair(_, _, _) => e,
+        SetArgument::Value(_, _) | SetArgument::Pair(_, _, _) => e,
     }
 }
 
@@ -213,9 +195,7 @@ fn acted(s: State, a: Action, p: StorageStep) -> State
     match a {
         Action::Reset => reset(s, p),
         Action::Clear => cleared(s, p),
-        Action::Start => state::with_storage_of(s, p),
-        Action::Pause => state::with_storage_of(s, p),
-        Action::Empty => state::with_storage_of(s, p),
+        Action::Start | Action::Pause | Action::Empty => state::with_storage_of(s, p),
         Action::Trigger => state::sampled(s, p),
     }
 }

@@ -4,9 +4,10 @@ use native.Mathlib.Omega.{arith}
 use mathlib.Core.Bool.{Bool, true, false, cond}
 use mathlib.Core.List.{List}
 use mathlib.Core.Path.{◌≡◌, refl}
+use Rattle.std.specs.Prelude.{Err}
 use Rattle.outcome.specs.declared.Refusal.TheVariants.{BadEvent}
-use Rattle.outcome.specs.declared.Outcome.{Outcome}
-use Rattle.outcome.specs.declared.Outcome.TheVariants.{Done, Refused}
+use Rattle.outcome.specs.Code.{Outcome}
+use Rattle.outcome.specs.Code as outcome
 use Rattle.status.specs.Status.{with_raised, may_raise}
 use Rattle.state.specs.State.{pair_of, with_registers, with_latest}
 use Rattle.state.specs.Valid.{latest_valid}
@@ -22,16 +23,16 @@ pub record Unchanged (e : After State Outcome) (s : State) (one two : List ℕ) 
   pub first : e.one ≡ one
   pub second : e.two ≡ two
 
-done_never : {A : Type 0} → Done ≡ Refused BadEvent → A
+done_never : {A : Type 0} → ◌≡◌ {A = Outcome} outcome.done (Err BadEvent) → A
 done_never p = let z : ◌≡◌ {A = ℕ} 0 1 = cc in absurd (omega arith)
 
 -- what is taken or refused, by a test
-either : (t : Bool) (a s : State) → (cond t (done a) (refused s)).outcome ≡ Refused BadEvent
+either : (t : Bool) (a s : State) → (cond t (done a) (refused s)).outcome ≡ Err BadEvent
     → (cond t (done a) (refused s)).state ≡ s
 either true a s p = done_never p
 either false a s p = refl
 
-pub event-refused : (e : Event) (s : State) (one two : List ℕ) → (event_of e s one two).report ≡ Refused BadEvent
+pub event-refused : (e : Event) (s : State) (one two : List ℕ) → (event_of e s one two).report ≡ Err BadEvent
     → Unchanged (event_of e s one two) s one two
 unfolding event_of latest_taken bits_raised sampled_in
 event-refused (Latest w v) s one two p =

@@ -1,8 +1,8 @@
 -- What an event does to the state and the traces: §7.6, §7.7, §9.1, §9.2, §9.3, §9.4, §9.5 and §12.6.
-use Rattle.std.specs.Prelude.{ℕ, ◌*◌, ◌^◌, Bool, cond, ◌&&◌, List, []}
+use Rattle.std.specs.Prelude.{ℕ, ◌*◌, ◌^◌, Bool, cond, ◌&&◌, List, [], Err}
 use Rattle.outcome.specs.declared.Refusal.TheVariants.{BadEvent}
-use Rattle.outcome.specs.declared.Outcome.{Outcome}
-use Rattle.outcome.specs.declared.Outcome.TheVariants.{Done, Refused}
+use Rattle.outcome.specs.Code.{Outcome}
+use Rattle.outcome.specs.Code as outcome
 use Rattle.settings.specs.Table.{harm, value_of}
 use Rattle.settings.specs.Frequency.{is_internal, within_limit, frequency_in_range}
 use Rattle.status.specs.Status.{with_lia, with_raised, may_raise}
@@ -27,11 +27,11 @@ quiet h one two = silent h.outcome h.state one two
 
 -- §12.6: a value of the event is not legal: 6, and nothing is done
 abbrev pub refused : State → EventEffect
-refused s = record { state = s; outcome = Refused BadEvent }
+refused s = record { state = s; outcome = Err BadEvent }
 
 -- a state, and nothing refused
 abbrev pub done : State → EventEffect
-done s = record { state = s; outcome = Done }
+done s = record { state = s; outcome = outcome.done }
 
 -- §9.1: a new latest pair, one legal point for each trace; else 6
 unfoldable pub latest_taken : ℕ → ℕ → State → EventEffect
@@ -71,7 +71,7 @@ sampled_in p s one two =
       one = stored_in p s s.latest.one one;
       two = stored_in p s s.latest.two two;
       out = [];
-      report = Done;
+      report = outcome.done;
     }
 
 -- §9.1, §9.2, §9.3, §9.4 and §9.5: what each event does

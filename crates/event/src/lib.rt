@@ -47,12 +47,12 @@ fn new_pair(s: State, w: u32, v: u32) -> EventEffect
         t.latest = latest;
         return EventEffect {
             state: t,
-            outcome: Outcome::Done,
+            outcome: Ok(()),
         };
     }
     EventEffect {
         state: s,
-        outcome: Outcome::Refused(Refusal::BadEvent),
+        outcome: Err(Refusal::BadEvent),
     }
 }
 
@@ -60,11 +60,8 @@ fn new_pair(s: State, w: u32, v: u32) -> EventEffect
 fn takes_frequency(s: State, frequency: u32) -> bool
     ensures { result ≡ takes_frequency s frequency }
 {
-    if settings::frequency_in_range(frequency) {
-        let harmonic = settings::value_of(s.settings, settings::HARM) as u64;
-        return settings::within_limit(harmonic * frequency as u64);
-    }
-    false
+    let harmonic = settings::value_of(s.settings, settings::HARM) as u64;
+    settings::frequency_in_range(frequency) && settings::within_limit(harmonic * frequency as u64)
 }
 
 // The state with another external frequency.
@@ -100,12 +97,12 @@ fn raised(s: State, lia: u8, errors: u8) -> EventEffect
         t.registers = status::with_raised(s.registers, lia, errors);
         return EventEffect {
             state: t,
-            outcome: Outcome::Done,
+            outcome: Ok(()),
         };
     }
     EventEffect {
         state: s,
-        outcome: Outcome::Refused(Refusal::BadEvent),
+        outcome: Err(Refusal::BadEvent),
     }
 }
 
@@ -117,7 +114,7 @@ fn sample(s: State, p: StorageStep, one: &mut [u32], two: &mut [u32]) -> EventEf
     state::store(s, p, one, two);
     EventEffect {
         state: state::sampled(s, p),
-        outcome: Outcome::Done,
+        outcome: Ok(()),
     }
 }
 
@@ -132,7 +129,7 @@ pub fn occur(s: State, e: Event, one: &mut [u32], two: &mut [u32]) -> EventEffec
         Event::Trigger => sample(s, state::trigger_of(s), one, two),
         Event::Measured(frequency) => EventEffect {
             state: measured(s, frequency),
-            outcome: Outcome::Done,
+            outcome: Ok(()),
         },
         Event::Raised(lia, errors) => raised(s, lia, errors),
     }

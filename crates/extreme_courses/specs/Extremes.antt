@@ -1,8 +1,7 @@
 -- The two courses that the check follows, under one settings value: §13.4, §13.5 and §13.9.
-use Rattle.std.specs.Prelude.{ℕ, ◌/◌, Bool, false, cond, ◌&&◌, ◌||◌}
+use Rattle.std.specs.Prelude.{ℕ, ◌/◌, Bool, false, cond, ◌&&◌, ◌||◌, Err, Some, None, Ok}
 use Rattle.outcome.specs.declared.Refusal.TheVariants.{NotAllowed, NoReset}
-use Rattle.outcome.specs.declared.Outcome.{Outcome}
-use Rattle.outcome.specs.declared.Outcome.TheVariants as outcome
+use Rattle.outcome.specs.Code.{Outcome, done}
 use Rattle.settings.specs.Table.{harm, start_settings, value_of}
 use Rattle.settings.specs.Frequency.{is_internal}
 use Rattle.settings.specs.Limits.{detection_limit}
@@ -10,8 +9,7 @@ use Rattle.settings.specs.declared.Settings.{Settings}
 use Rattle.storage.specs.Storage.{triggered_of}
 use Rattle.command.specs.declared.Kind.{Kind}
 use Rattle.command.specs.declared.Kind.TheVariants.{Set, Query, Act}
-use Rattle.command.specs.declared.Parsed.{Parsed}
-use Rattle.command.specs.declared.Parsed.TheVariants as parsed
+use Rattle.command.specs.Parsed.{Parsed}
 use Rattle.state.specs.State.{at_frequency, with_storage, sampling_of, start_acquisition, range_settled}
 use Rattle.state.specs.declared.Acquisition.{Acquisition}
 use Rattle.precondition.specs.Allowed.{is_allowed}
@@ -50,15 +48,15 @@ before_line model b =
 unfoldable pub kind_refusal : Kind → Extremes → Outcome
 kind_refusal kind b =
     cond b.begun
-    (cond (is_allowed b.settings b.low kind && is_allowed b.settings b.high kind) outcome.Done
-    (outcome.Refused NotAllowed))
-    (cond (resets kind) outcome.Done (outcome.Refused NoReset))
+    (cond (is_allowed b.settings b.low kind && is_allowed b.settings b.high kind) done
+    (Err NotAllowed))
+    (cond (resets kind) done (Err NoReset))
 
 -- §13.4 and §13.5: the same of a command as it is read: 1 and 2 are its text's own, and an empty one is not refused
 unfoldable pub text_refusal : Parsed → Extremes → Outcome
-text_refusal parsed.Empty b = outcome.Done
-text_refusal (parsed.Refused r) b = outcome.Refused (cond b.begun r NoReset)
-text_refusal (parsed.Taken c) b = kind_refusal c.kind b
+text_refusal (Ok None) b = done
+text_refusal (Err r) b = Err (cond b.begun r NoReset)
+text_refusal (Ok (Some c)) b = kind_refusal c.kind b
 
 -- §13.9: both courses past a command that no course refuses
 unfoldable pub kind_after : Model → Kind → Extremes → Extremes
@@ -73,9 +71,9 @@ kind_after model kind b =
 
 -- §13.9: what is carried past a command's text
 unfoldable pub text_after : Model → Parsed → Extremes → Extremes
-text_after model parsed.Empty b = b
-text_after model (parsed.Refused r) b = b
-text_after model (parsed.Taken c) b = kind_after model c.kind b
+text_after model (Ok None) b = b
+text_after model (Err r) b = b
+text_after model (Ok (Some c)) b = kind_after model c.kind b
 
 -- §13.4 and §13.9: what is carried into a script: *RST has not begun it, and all else is as *RST leaves it
 abbrev pub start_extremes : Extremes

@@ -122,16 +122,16 @@ fn kind_refusal(kind: Kind, b: Extremes) -> Outcome
         let high = b.high;
         if precondition::is_allowed(b.settings, low, kind) {
             if precondition::is_allowed(b.settings, high, kind) {
-                return Outcome::Done;
+                return Ok(());
             }
-            return Outcome::Refused(Refusal::NotAllowed);
+            return Err(Refusal::NotAllowed);
         }
-        return Outcome::Refused(Refusal::NotAllowed);
+        return Err(Refusal::NotAllowed);
     }
     if resets(kind) {
-        return Outcome::Done;
+        return Ok(());
     }
-    Outcome::Refused(Refusal::NoReset)
+    Err(Refusal::NoReset)
 }
 
 // Refusal 7 as long as no *RST has begun the script.
@@ -139,22 +139,20 @@ fn early_refusal(begun: bool, refusal: Refusal) -> Outcome
     ensures { result ≡ early_refusal begun refusal }
 {
     if begun {
-        return Outcome::Refused(refusal);
+        return Err(refusal);
     }
-    Outcome::Refused(Refusal::NoReset)
+    Err(Refusal::NoReset)
 }
 
 // The refusal of a command as it is read: 7 before *RST, 1 and 2 by its text, 3 where one of the two refuses it.
+#[tactic(auto, unfolding(crate::specs::Extremes::text_refusal))]
 pub fn text_refusal(p: Parsed, b: Extremes) -> Outcome
     ensures { result ≡ text_refusal p b }
 {
     match p {
-        Parsed::Empty => Outcome::Done,
-        Parsed::Refused(refusal) => early_refusal(b.begun, refusal),
-        Parsed::Taken(c) => {
-            let kind = c.kind;
-            kind_refusal(kind, b)
-        }
+        Ok(None) => Ok(()),
+        Err(refusal) => early_refusal(b.begun, refusal),
+        Ok(Some(c)) => kind_refusal(c.kind, b),
     }
 }
 
@@ -184,16 +182,13 @@ fn kind_after(model: Model, kind: Kind, b: Extremes) -> Extremes
 }
 
 // What is carried past a command that is not refused.
+#[tactic(auto, unfolding(crate::specs::Extremes::text_after))]
 pub fn text_after(model: Model, p: Parsed, b: Extremes) -> Extremes
     ensures { result ≡ text_after model p b }
 {
     match p {
-        Parsed::Empty => b,
-        Parsed::Refused(_) => b,
-        Parsed::Taken(c) => {
-            let kind = c.kind;
-            kind_after(model, kind, b)
-        }
+        Ok(None) | Err(_) => b,
+        Ok(Some(c)) => kind_after(model, c.kind, b),
     }
 }
 

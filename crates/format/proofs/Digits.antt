@@ -1,11 +1,11 @@
 -- The digits of a number: how many there are, and one at a time. Assumes nothing.
-use Prim.Native.Nat.{ℕ, zero, suc, ◌+◌, ◌-◌, ◌*◌, ◌/◌, ◌%◌, ◌^◌, ◌≤◌, ◌<◌}
+use Prim.Native.Nat.{ℕ, zero, suc, ◌+◌, ◌-◌, ◌*◌, ◌/◌, ◌%◌, ◌^◌, ◌≤◌, ◌<◌, max}
 use mathlib.Core.Path.{◌≡◌, refl, sym, ap}
 use mathlib.Core.List.{List, [], ◌∷◌}
 use native.Mathlib.Omega.{arith}
-use native.Mathlib.Nat.{pow-suc, one-le-pow, div-div-eq-div-mul, div-lt_iff_lt-mul}
+use native.Mathlib.Nat.{pow-suc, one-le-pow, pow-le-pow_right, div-div-eq-div-mul, div-lt_iff_lt-mul}
 use native.Mathlib.Numerals.{add-one}
-use borrow.Author.Tests.{ltb-true, le-ltb, lt-ltb}
+use borrow.Author.Tests.{ltb-true, ltb-false, le-ltb, lt-ltb}
 use lib.Dec.{ltb}
 use lib.Pow.{pow-add}
 use lib.ListN.{length}
@@ -80,6 +80,15 @@ places_some (suc n) = cond_by (λ k. 0 < k) (ltb (suc n) 10) (λ e. omega arith)
 
 pub places_least : (n k : ℕ) → 0 < k → n < 10 ^ k → digit_count n ≤ k
 places_least n k l h = least_in n n k l h
+
+-- the count by a power of ten that is not above the number, or is 1 for the number 0, and the next one, which is above
+pub places_by_power : (n m k : ℕ) → m ≡ max n 1 → 10 ^ k ≤ m → m < 10 * 10 ^ k → k + 1 ≡ digit_count n
+places_by_power n m k e l h =
+    let most = places_least n (k + 1) (omega arith) (rw (add-one, pow-suc) (omega arith)) in
+    split (ltb k (digit_count n)) (λ p. omega (arith, ltb-true k (digit_count n) p))
+    (λ p. let below : 10 ^ digit_count n ≤ 10 ^ k = pow-le-pow_right {n = 10} (omega arith) (ltb-false k (digit_count n) p) in
+    let ten : 10 ^ 1 ≤ 10 ^ digit_count n = pow-le-pow_right {n = 10} (omega arith) (places_some n) in
+    absurd (omega (arith, places_hold n)))
 
 -- a whole part and its decimals have no more digits than the number, but that the whole part has one at least
 pub places_whole : (k d n : ℕ) → d < k → n < 10 ^ k → digit_count (n / 10 ^ d) + d ≤ k

@@ -1,15 +1,14 @@
 -- The promise on replies' numbers (§4.7), once over the decimals, proved in `proofs/RoundTrip.antt`: what is written,
 -- read again, is the same value. Assumes nothing.
-use Rattle.std.specs.Prelude.{ℕ, ◌^◌, ◌<◌, Bool, true, false, ◌≡◌, ltb}
+use Rattle.std.specs.Prelude.{ℕ, ◌^◌, ◌<◌, Bool, true, false, ◌≡◌, ltb, Option, Some}
 use Rattle.number.specs.Number.{digit_limit}
 use Rattle.number.specs.Parts.{read_of}
-use Rattle.number.specs.declared.Reading.{Reading}
-use Rattle.number.specs.declared.Reading.TheVariants.{Number}
+use Rattle.number.specs.declared.Quantity.{Quantity}
 use Rattle.format.specs.Text.{distance, signed_text}
 
 -- a number that is read as n, with nothing left over
-abbrev pub exactly : Bool → ℕ → Reading
-exactly negative n = Number (record { negative = negative; whole = n; half = false; exact = true })
+abbrev pub exactly : Bool → ℕ → Option Quantity
+exactly negative n = Some (record { negative = negative; whole = n; half = false; exact = true })
 
 -- §4.7: the text of v, which has the bias added, read in the same units, is the distance of v and the bias, below zero
 -- where v is below the bias. The decimals are fewer than the digits of a number, since one is before the point

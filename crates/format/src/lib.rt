@@ -3,7 +3,7 @@
 
 ghost use Rattle.std.specs.Prelude.{◌≡◌, [], ◌∷◌, ◌+◌, ◌/◌, ◌%◌, ◌^◌};
 ghost use Rattle.number.specs.Number.{digit_zero};
-ghost use Rattle.format.specs.Text.{padded, digit_count, plain, fixed, sign, distance, signed_text, next};
+ghost use Rattle.format.specs.Text.{padded, digit_count, plain, fixed, sign, signed_text, next};
 ghost use Rattle.format.specs.Parts.{bytes_of, appended};
 
 // The most bytes of a text: more than any reply in text has.
@@ -12,7 +12,7 @@ const LIMIT: usize = 32;
 // The digit "0".
 const ZERO: u32 = b'0' as u32;
 
-// A reply in text, built by value before it is sent.
+// A reply in text, built by value before it is sent, in a fixed room, since there is no heap.
 #[derive(Clone, Copy)]
 pub struct Text {
     // The text, then bytes that do not count.
@@ -37,13 +37,12 @@ impl Text {
 pub fn push(t: Text, b: u8) -> Text
     ensures { bytes_of result ≡ appended (bytes_of t) (b ∷ []) }
 {
-    let at = t.len;
-    if LIMIT <= at {
+    if LIMIT <= t.len {
         return t;
     }
     let mut n = t;
-    n.bytes[at] = b;
-    n.len = at + 1;
+    n.bytes[t.len] = b;
+    n.len += 1;
     n
 }
 
@@ -52,10 +51,8 @@ fn whole_part(value: u32, decimals: u8) -> u32
     ensures { result ≡ value / 10 ^ decimals }
 {
     let mut rest = value;
-    let mut i = 0;
-    while i < decimals {
+    for _ in 0..decimals {
         rest /= 10;
-        i += 1;
     }
     rest
 }
@@ -72,10 +69,8 @@ pub fn push_padded(t: Text, value: u32, width: u8) -> Text
     ensures { bytes_of result ≡ appended (bytes_of t) (padded width value) }
 {
     let mut text = t;
-    let mut left = width;
-    while 0 < left {
-        left -= 1;
-        text = push(text, digit(value, left));
+    for position in (0..width).rev() {
+        text = push(text, digit(value, position));
     }
     text
 }
@@ -84,13 +79,7 @@ pub fn push_padded(t: Text, value: u32, width: u8) -> Text
 fn digit_count(value: u32) -> u8
     ensures { result ≡ digit_count value }
 {
-    let mut count = 1;
-    let mut rest = value;
-    while 10 <= rest {
-        rest /= 10;
-        count += 1;
-    }
-    count
+    value.max(1).ilog10() as u8 + 1
 }
 
 // The text with a whole number, without zeros in front.
@@ -117,20 +106,7 @@ pub fn push_fixed(t: Text, value: u32, decimals: u8) -> Text
 fn push_sign(t: Text, value: u32, bias: u32) -> Text
     ensures { bytes_of result ≡ appended (bytes_of t) (sign bias value) }
 {
-    if value < bias {
-        return push(t, b'-');
-    }
-    t
-}
-
-// How far apart two numbers are.
-fn distance_of(a: u32, b: u32) -> u32
-    ensures { result ≡ distance a b }
-{
-    if a < b {
-        return b - a;
-    }
-    a - b
+    if value < bias { push(t, b'-') } else { t }
 }
 
 // The text with a value that has the bias added: a minus where it is below zero, then its distance from zero.
@@ -138,7 +114,7 @@ pub fn push_value(t: Text, value: u32, bias: u32, decimals: u8) -> Text
     ensures { bytes_of result ≡ appended (bytes_of t) (signed_text decimals bias value) }
 {
     let signed = push_sign(t, value, bias);
-    push_fixed(signed, distance_of(bias, value), decimals)
+    push_fixed(signed, value.abs_diff(bias), decimals)
 }
 
 // The text with a further value of the same reply, a comma before it.

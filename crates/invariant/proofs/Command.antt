@@ -4,12 +4,12 @@ use native.Mathlib.Omega.{arith}
 use mathlib.Core.Path.{◌≡◌, refl}
 use mathlib.Core.Bool.{Bool, true, false, cond}
 use mathlib.Core.List.{List}
+use Rattle.std.specs.Prelude.{Some, None, Ok, Err}
 use Rattle.outcome.specs.Code.{code_of}
 use Rattle.outcome.specs.declared.Refusal.{Refusal}
 use Rattle.outcome.specs.declared.Refusal.TheVariants.{NotAllowed, NoRoom}
 use Rattle.command.specs.declared.Kind.{Kind}
-use Rattle.command.specs.declared.Parsed.{Parsed}
-use Rattle.command.specs.declared.Parsed.TheVariants.{Empty, Taken, Refused}
+use Rattle.command.specs.Parsed.{Parsed}
 use Rattle.state.specs.declared.State.{State}
 use Rattle.precondition.specs.Allowed.{is_allowed}
 use Rattle.reply_buffer.specs.Buffer.{fits_in}
@@ -36,6 +36,6 @@ module _ (room : ℕ) (waiting : Bool) (s : State) (one two : List ℕ) (P : Eff
     where
       pub command_by : (p : Parsed) → StorableParsed p → P (command_of room waiting p s one two)
       unfolding command_of
-      command_by Empty k = none
-      command_by (Refused r) k = refused r (omega arith)
-      command_by (Taken c) k = performed_by c.kind refused (done c.kind k)
+      command_by (Ok None) k = none
+      command_by (Err r) k = refused r (omega arith)
+      command_by (Ok (Some c)) k = performed_by c.kind refused (done c.kind k)

@@ -7,11 +7,12 @@ use native.Mathlib.Omega.{arith}
 use lib.Dec.{leb, ltb, eqb}
 use lib.ListN.{length}
 use borrow.Author.Tests.{ltb-true, leb-true, eqb-true}
+use Rattle.std.specs.Prelude.{Some}
 use Rattle.mnemonic.specs.Names.{commands, same_bytes, meaning_of}
 use Rattle.mnemonic.specs.declared.Register.{Register}
 use Rattle.mnemonic.specs.declared.Meaning.{Meaning}
 use Rattle.mnemonic.specs.declared.Meaning.TheVariants.{Setting, Channel, ChannelPair, Enable, Status, Identity}
-use Rattle.mnemonic.specs.declared.Meaning.TheVariants.{Points, Trace, Act, Unknown}
+use Rattle.mnemonic.specs.declared.Meaning.TheVariants.{Points, Trace, Act}
 use Rattle.mnemonic.proofs.Rule.{same_bytes_lem, named_by, name_rule}
 use Rattle.settings.specs.Table.{table, row_of, entries, oflt, send}
 use Rattle.settings.specs.Setting.{step_of}
@@ -102,7 +103,6 @@ fits name Identity = true
 fits name Points = true
 fits name (Trace form) = true
 fits name (Act a) = true
-fits name Unknown = true
 
 fits_all : all (named_by fits) commands ≡ true
 unfolding every table row_of
@@ -121,15 +121,15 @@ is_name_lem name h =
     record { four = eqb-true (length name) 4 both.0; bytes = both.1 }
 
 module _ (name : List ℕ) where
-  fits-name : (m : Meaning) → meaning_of name ≡ m → fits name m ≡ true
-  fits-name m e = rw (← e) (name_rule fits fits_all name refl)
+  fits-name : (m : Meaning) → meaning_of name ≡ Some m → fits name m ≡ true
+  fits-name m e = name_rule fits fits_all name m e
 
-  pub name_of_one : (entry : ℕ) → meaning_of name ≡ Setting entry → Name name × (entry < entries)
+  pub name_of_one : (entry : ℕ) → meaning_of name ≡ Some (Setting entry) → Name name × (entry < entries)
   name_of_one entry e =
       let both = (and-eq-true_iff (is_name name) (ltb entry entries)).0 (fits-name (Setting entry) e) in
       (is_name_lem name both.0, ltb-true entry entries both.1)
 
-  pub name_of_enable : (which : Register) → meaning_of name ≡ Enable which → Name name
+  pub name_of_enable : (which : Register) → meaning_of name ≡ Some (Enable which) → Name name
   name_of_enable which e = is_name_lem name (fits-name (Enable which) e)
 
   -- channels of the table, each by a test
@@ -153,14 +153,14 @@ module _ (name : List ℕ) where
       }
 
   module _ (base channels i : ℕ) (some : 1 ≤ i) (most : i ≤ channels) where
-    pub name_of_channel : meaning_of name ≡ Channel base channels →
+    pub name_of_channel : meaning_of name ≡ Some (Channel base channels) →
         Name name × (channels ≤ entries) × Alike (base + (i - 1)) base
     name_of_channel e =
         let f = channels_fit_lem (alike_one base) base (base + channels) channels (fits-name (Channel base channels) e) in
         let same = f.each (i - 1) (omega arith) in
         (f.named, omega arith, alike_at (base + (i - 1)) base (omega arith) (omega arith) f.first same)
 
-    pub name_of_pair : meaning_of name ≡ ChannelPair base channels →
+    pub name_of_pair : meaning_of name ≡ Some (ChannelPair base channels) →
         Name name × (channels ≤ entries) × Alike (base + 2 * (i - 1)) base × Alike (base + 2 * (i - 1) + 1) (base + 1)
     name_of_pair e =
         let h = fits-name (ChannelPair base channels) e in

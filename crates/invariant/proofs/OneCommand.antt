@@ -9,7 +9,7 @@ use borrow.Author.Tests.{le-leb}
 use Rattle.split.specs.Divide.{parts}
 use Rattle.line_text.specs.Clean.{line_limit, cleaned}
 use Rattle.line_text.specs.Texts.{semicolon}
-use Rattle.outcome.specs.declared.Outcome.TheVariants.{Done}
+use Rattle.outcome.specs.Code.{done}
 use Rattle.command.specs.Parsed.{parsed_of, taken}
 use Rattle.command.specs.declared.Kind.{Kind}
 use Rattle.state.specs.declared.State.{State}
@@ -42,14 +42,14 @@ said_line text kind says room s one two =
 
 -- a call with a line that 11, 9 and 5 do not refuse
 pub open_call : (room : ℕ) (text : List ℕ) (m : Module) (one two : List ℕ) →
-    guard_of m (length one) (length two) ≡ Done → length text ≤ line_limit →
+    guard_of m (length one) (length two) ≡ done → length text ≤ line_limit →
     line_call room text m one two ≡ with_queue m.queue (line_ran (line_of room text m.state one two))
 unfolding line_call whole_line whole_end line_end guarded
 open_call room text m one two passes short = rw (passes, le-leb (length text) line_limit short) refl
 
 -- a call with such a line that neither 11 nor 9 refuses
 pub said_call : (text : List ℕ) (kind : Kind) → Says text kind → (room : ℕ) (m : Module) (one two : List ℕ) →
-    guard_of m (length one) (length two) ≡ Done →
+    guard_of m (length one) (length two) ≡ done →
     line_call room text m one two
     ≡ with_queue m.queue
     (line_ran (after_of (start_line m.state one two) (performed room false kind m.state one two)))

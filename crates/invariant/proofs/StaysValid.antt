@@ -7,11 +7,12 @@ use mathlib.Core.List.{List, [], ◌∷◌}
 use lib.Dec.{leb, ltb, eqb}
 use lib.ListN.{length, length-set}
 use borrow.Author.Tests.{eqb-true, eq-eqb}
+use Rattle.std.specs.Prelude.{Ok, Err}
 use Rattle.laws.proofs.Tests.{cond_by}
 use Rattle.outcome.specs.declared.Refusal.{Refusal}
 use Rattle.outcome.specs.declared.Refusal.TheVariants.{LongLine, BadTraces, BadStart, BadState}
-use Rattle.outcome.specs.declared.Outcome.{Outcome}
-use Rattle.outcome.specs.declared.Outcome.TheVariants.{Done, Refused}
+use Rattle.outcome.specs.Code.{Outcome}
+use Rattle.outcome.specs.Code as outcome
 use Rattle.state.specs.State.{installation_of, start_state, with_error_bit}
 use Rattle.state.specs.Valid.{installation_valid, valid_state}
 use Rattle.state.specs.declared.Installation.{Installation}
@@ -46,20 +47,20 @@ pub record Passes (m : Module) (first second : ℕ) : Type 0 where
   pub first_fits : eqb first m.state.installation.capacity ≡ true
   pub second_fits : eqb second m.state.installation.capacity ≡ true
 
-pub refused_never : {A : Type 0} (r : Refusal) → Refused r ≡ Done → A
+pub refused_never : {A : Type 0} (r : Refusal) → ◌≡◌ {A = Outcome} (Err r) outcome.done → A
 refused_never r p = let z : ◌≡◌ {A = ℕ} 0 1 = cc in absurd (omega arith)
 
-pub passes : (m : Module) (first second : ℕ) → guard_of m first second ≡ Done → Passes m first second
+pub passes : (m : Module) (first second : ℕ) → guard_of m first second ≡ outcome.done → Passes m first second
 unfolding guard_of
 passes m first second = by (valid_module m) (eqb first m.state.installation.capacity) (eqb second m.state.installation.capacity) refl refl refl where
   by : (a b c : Bool) → valid_module m ≡ a → eqb first m.state.installation.capacity ≡ b → eqb second m.state.installation.capacity ≡ c
-      → cond a (cond (b && c) Done (Refused BadTraces)) (Refused BadState) ≡ Done → Passes m first second
+      → cond a (cond (b && c) outcome.done (Err BadTraces)) (Err BadState) ≡ outcome.done → Passes m first second
   by true true true p q r e = record { valid = p; first_fits = q; second_fits = r }
   by true true false p q r e = refused_never BadTraces e
   by true false c p q r e = refused_never BadTraces e
   by false b c p q r e = refused_never BadState e
 
-passed : (m : Module) (first second : ℕ) → Passes m first second → guard_of m first second ≡ Done
+passed : (m : Module) (first second : ℕ) → Passes m first second → guard_of m first second ≡ outcome.done
 unfolding guard_of
 passed m first second k = rw (k.valid, k.first_fits, k.second_fits)
 
@@ -97,13 +98,13 @@ start-passes serial port first second p q =
 module _ (serial port first second : ℕ) (P : StartResult → Type 0)
     (refused : (r : Refusal) → P (refused_start r))
     (done : installation_known serial port ≡ true → traces_fit first second ≡ true
-    → P (record { after = fresh_module (installation_of serial port first); outcome = Done }))
+    → P (record { after = fresh_module (installation_of serial port first); outcome = outcome.done }))
   where
     pub start_by : P (start_call serial port first second)
     unfolding start_call
     start_by = by (installation_known serial port) (traces_fit first second) refl refl where
       by : (a b : Bool) → installation_known serial port ≡ a → traces_fit first second ≡ b
-          → P (cond a (cond b (record { after = fresh_module (installation_of serial port first); outcome = Done }) (refused_start BadTraces)) (refused_start BadStart))
+          → P (cond a (cond b (record { after = fresh_module (installation_of serial port first); outcome = outcome.done }) (refused_start BadTraces)) (refused_start BadStart))
       by true true p q = done p q
       by true false p q = refused BadTraces
       by false b p q = refused BadStart
@@ -122,10 +123,10 @@ start-made serial port first second =
     (λ r. (refused-valid, fresh-queued (installation_of 0 1 1)))
     (λ p q. ((start-passes serial port first second p q).valid, fresh-queued (installation_of serial port first)))
 
-start_goes : (serial port first second : ℕ) → (start_call serial port first second).outcome ≡ Done
-    → guard_of (start_call serial port first second).after first second ≡ Done
+start_goes : (serial port first second : ℕ) → (start_call serial port first second).outcome ≡ outcome.done
+    → guard_of (start_call serial port first second).after first second ≡ outcome.done
 start_goes serial port first second =
-    start_by serial port first second (λ s. s.outcome ≡ Done → guard_of s.after first second ≡ Done) (λ r e. refused_never r e)
+    start_by serial port first second (λ s. s.outcome ≡ outcome.done → guard_of s.after first second ≡ outcome.done) (λ r e. refused_never r e)
     (λ p q e. passed (fresh_module (installation_of serial port first)) first second (start-passes serial port first second p q))
 
 -- ---- calls
@@ -170,8 +171,8 @@ On m one two c = ModulePreserved m c.after one two c.one c.two
 guarded_goes : {R : Type 0} (report : Refusal → R) (o : Outcome) (c : After Module R) (m : Module) (one two : List ℕ) →
     On m one two c → On m one two (guarded report o c m one two)
 unfolding guarded
-guarded_goes report Done c m one two g = g
-guarded_goes report (Refused r) c m one two g = same_goes m one two
+guarded_goes report (Ok _) c m one two g = g
+guarded_goes report (Err r) c m one two g = same_goes m one two
 
 -- a queue that is as valid as the module's was, with as many bytes
 record Follows (m : Module) (q : Queue) : Type 0 where
@@ -280,7 +281,7 @@ event_goes : (e : Event) (m : Module) (one two : List ℕ) → On m one two (eve
 unfolding event_call
 event_goes e m one two =
     let o = event_of e m.state one two in
-    guarded_goes Refused (guard_of m (length one) (length two)) _ m one two
+    guarded_goes Err (guard_of m (length one) (length two)) _ m one two
     (module_goes m o.after m.queue one two o.one o.two (states_stay.event e m.state one two) (λ k. k) refl)
 
 -- ---- what we made

@@ -7,7 +7,7 @@ use Rattle.settings.specs.Frequency.{is_internal, range_stands, range_changed_bi
 use Rattle.settings.specs.declared.FrequencyRange.{FrequencyRange}
 use Rattle.settings.specs.declared.FrequencyRange.TheVariants.{Upper, Lower}
 use Rattle.status.specs.Status.{with_lia}
-use Rattle.outcome.specs.declared.Outcome.TheVariants.{Done}
+use Rattle.outcome.specs.Code.{done}
 use Rattle.event.specs.Event.{takes_frequency, with_external}
 use Rattle.event.specs.declared.Event.TheVariants.{Measured}
 use Rattle.state.specs.State.{with_range, with_settings, with_acquisition, with_registers, detection_now}
@@ -34,8 +34,8 @@ taken_by f m =
 -- may have, such a frequency is taken, and the event answers 0 and changes nothing else
 abbrev pub InsideBandStays : Type 0
 InsideBandStays =
-    (m : Module) (one two : List ℕ) (f : ℕ) → guard_of m (length one) (length two) ≡ Done → InsideBand m.state f →
-    event_call (Measured f) m one two ≡ silent Done (taken_by f m) one two
+    (m : Module) (one two : List ℕ) (f : ℕ) → guard_of m (length one) (length two) ≡ done → InsideBand m.state f →
+    event_call (Measured f) m one two ≡ silent done (taken_by f m) one two
 
 -- ---- everywhere
 
@@ -63,6 +63,6 @@ pub data Settles (s : State) : State → Type 0 where
 -- four: so LIA bit 5 never comes without bit 4, and no time constant changes while the range stays
 abbrev pub RangeMoves : Type 0
 RangeMoves =
-    (m : Module) (one two : List ℕ) (f : ℕ) → guard_of m (length one) (length two) ≡ Done →
+    (m : Module) (one two : List ℕ) (f : ℕ) → guard_of m (length one) (length two) ≡ done →
     is_internal m.state.settings ≡ false → takes_frequency m.state f ≡ true →
     Settles (with_external f m.state) (event_call (Measured f) m one two).after.state

@@ -1,6 +1,6 @@
 -- Valid states stay valid, so that 11 never refuses a state that we made (§1.4, §12.11), nor 9 its traces (§12.9).
 use Rattle.std.specs.Prelude.{ℕ, Bool, true, ◌≡◌, List, length}
-use Rattle.outcome.specs.declared.Outcome.TheVariants.{Done}
+use Rattle.outcome.specs.Code.{done}
 use Rattle.event.specs.declared.Event.{Event}
 use Rattle.queue.specs.Queue.{line_limit}
 use Rattle.module.specs.Module.{valid_module, guard_of}
@@ -13,7 +13,7 @@ use Rattle.lockin.specs.Run.{run_call}
 -- nor 9 (the traces, §12.9) refuses a call, neither refuses the next one; the queue's bytes stay as many
 pub record ModulePreserved (before after : Module) (one two first second : List ℕ) : Type 0 where
   pub valid : valid_module before ≡ true → valid_module after ≡ true
-  pub next : guard_of before (length one) (length two) ≡ Done → guard_of after (length first) (length second) ≡ Done
+  pub next : guard_of before (length one) (length two) ≡ done → guard_of after (length first) (length second) ≡ done
   pub queued : length after.queue.bytes ≡ length before.queue.bytes
 
 -- §12.11: a module that the calls made, each with any traces
@@ -38,8 +38,8 @@ pub data Reachable : Module → Type 0 where
 -- no module that we made is refused by 11
 pub record StaysValid : Type 0 where
   pub start : (serial port first second : ℕ) → valid_module (start_call serial port first second).after ≡ true
-  pub started : (serial port first second : ℕ) → (start_call serial port first second).outcome ≡ Done →
-      guard_of (start_call serial port first second).after first second ≡ Done
+  pub started : (serial port first second : ℕ) → (start_call serial port first second).outcome ≡ done →
+      guard_of (start_call serial port first second).after first second ≡ done
   pub queued : (serial port first second : ℕ) →
       length (start_call serial port first second).after.queue.bytes ≡ line_limit
   pub line : (room : ℕ) (bytes : List ℕ) (m : Module) (one two : List ℕ) →

@@ -11,8 +11,7 @@ use Rattle.laws.proofs.Tests.{cond_by}
 use Rattle.laws.proofs.Lists.{all}
 use Rattle.split.specs.Divide.{on_head, parts}
 use Rattle.number.specs.Number.{is_number, begins}
-use Rattle.number.specs.declared.Argument.{Argument}
-use Rattle.number.specs.declared.Argument.TheVariants as argument
+use Rattle.std.specs.Prelude.{Option, Some, None, Ok, Err}
 use Rattle.settings.specs.Table.{entries, row_of}
 use Rattle.settings.specs.Setting.{setting_of}
 use Rattle.settings.specs.Valid.{value_valid}
@@ -26,7 +25,7 @@ use Rattle.mnemonic.specs.declared.Meaning.TheVariants as meaning
 use Rattle.mnemonic.proofs.Rule.{named_by, name_rule}
 use Rattle.command.specs.Arguments.{question_mark, comma, arguments}
 use Rattle.command.specs.Parsed.{with, one, two, three, whole_of, bit_most, register_most, alone}
-use Rattle.command.specs.Parsed.{set_with, query_with, parsed_of}
+use Rattle.command.specs.Parsed.{Parsed, Read, known, set_with, query_with, read_as, parsed_as, parsed_of}
 use Rattle.command.specs.Parsed.{set_setting, set_channel, set_channel_pair, set_enable}
 use Rattle.command.specs.Parsed.{query_channel, query_channel_pair, query_enable, query_status, query_trace}
 use Rattle.command.specs.declared.SetArgument.{SetArgument}
@@ -35,27 +34,35 @@ use Rattle.command.specs.declared.QueryArgument.{QueryArgument}
 use Rattle.command.specs.declared.QueryArgument.TheVariants as query
 use Rattle.command.specs.declared.Kind.{Kind}
 use Rattle.command.specs.declared.Kind.TheVariants.{Set, Query, Act}
-use Rattle.command.specs.declared.Parsed.{Parsed}
-use Rattle.command.specs.declared.Parsed.TheVariants.{Empty, Taken, Refused}
 use Rattle.line.specs.Parts.{has}
 use Rattle.line.proofs.Bytes.{or-none, Without, without_drop}
 
--- a command of which Such holds, if the text is one; else refusal 1 or 2
-abbrev pub Reads : (Kind → Type 0) → Parsed → Type 0
-Reads Such Empty = Unit {0}
-Reads Such (Taken c) = Such c.kind
-Reads Such (Refused r) = (code_of r).number ≤ 2
+-- a command of which Such holds, if a name and its arguments are one; else refusal 1 or 2
+abbrev Reads : (Kind → Type 0) → Read → Type 0
+Reads Such (Ok k) = Such k
+Reads Such (Err r) = (code_of r).number ≤ 2
+
+-- a command of which Such holds, if the text is one, or none; else refusal 1 or 2
+abbrev pub Parses : (Kind → Type 0) → Parsed → Type 0
+Parses Such (Ok None) = Unit {0}
+Parses Such (Ok (Some c)) = Such c.kind
+Parses Such (Err r) = (code_of r).number ≤ 2
+
+-- a text that is not empty is one
+parses : (Such : Kind → Type 0) (r : Read) → Reads Such r → Parses Such (parsed_as r)
+parses Such (Ok k) h = h
+parses Such (Err r) h = h
 
 -- ---- arguments, each way to read them
 
 module _ (Such : Kind → Type 0) where
   -- texts that are no numbers are refused by 1
-  number-reads : (t : Bool) (p : Parsed) → Reads Such p → Reads Such (cond t p (Refused Malformed))
+  number-reads : (t : Bool) (p : Read) → Reads Such p → Reads Such (cond t p (Err Malformed))
   number-reads true p f = f
   number-reads false p f = omega arith
 
   -- one argument
-  one-reads : (k : List ℕ → Parsed) → ((a : List ℕ) → Reads Such (k a)) → (args : List (List ℕ)) →
+  one-reads : (k : List ℕ → Read) → ((a : List ℕ) → Reads Such (k a)) → (args : List (List ℕ)) →
       Reads Such (one k args)
   unfolding one
   one-reads k f [] = omega arith
@@ -63,7 +70,7 @@ module _ (Such : Kind → Type 0) where
   one-reads k f (a ∷ b ∷ more) = omega arith
 
   -- two
-  two-reads : (k : List ℕ → List ℕ → Parsed) → ((a b : List ℕ) → Reads Such (k a b)) → (args : List (List ℕ)) →
+  two-reads : (k : List ℕ → List ℕ → Read) → ((a b : List ℕ) → Reads Such (k a b)) → (args : List (List ℕ)) →
       Reads Such (two k args)
   unfolding two
   two-reads k f [] = omega arith
@@ -72,7 +79,7 @@ module _ (Such : Kind → Type 0) where
   two-reads k f (a ∷ b ∷ c ∷ more) = omega arith
 
   -- three
-  three-reads : (k : List ℕ → List ℕ → List ℕ → Parsed) → ((a b c : List ℕ) → Reads Such (k a b c)) →
+  three-reads : (k : List ℕ → List ℕ → List ℕ → Read) → ((a b c : List ℕ) → Reads Such (k a b c)) →
       (args : List (List ℕ)) → Reads Such (three k args)
   unfolding three
   three-reads k f [] = omega arith
@@ -82,10 +89,16 @@ module _ (Such : Kind → Type 0) where
   three-reads k f (a ∷ b ∷ c ∷ d ∷ more) = omega arith
 
   -- an argument's value, where its range takes it
-  with-reads : (a : Argument) (k : ℕ → Parsed) → ((v : ℕ) → a ≡ argument.Value v → Reads Such (k v)) →
+  with-reads : (a : Option ℕ) (k : ℕ → Read) → ((v : ℕ) → a ≡ Some v → Reads Such (k v)) →
       Reads Such (with a k)
-  with-reads (argument.Value v) k f = f v refl
-  with-reads argument.Refused k f = omega arith
+  with-reads (Some v) k f = f v refl
+  with-reads None k f = omega arith
+
+  -- a name's meaning, where it is a command's
+  known-reads : (o : Option Meaning) (k : Meaning → Read) → ((m : Meaning) → o ≡ Some m → Reads Such (k m)) →
+      Reads Such (known o k)
+  known-reads (Some m) k f = f m refl
+  known-reads None k f = omega arith
 
   -- none
   alone-reads : (kind : Kind) → Such kind → (args : List (List ℕ)) → Reads Such (alone kind args)
@@ -94,7 +107,7 @@ module _ (Such : Kind → Type 0) where
   alone-reads kind h (a ∷ more) = omega arith
 
   -- a query of one whole number
-  asked-reads : (low high : ℕ) (k : ℕ → Parsed) → ((v : ℕ) → Reads Such (k v)) → (args : List (List ℕ)) →
+  asked-reads : (low high : ℕ) (k : ℕ → Read) → ((v : ℕ) → Reads Such (k v)) → (args : List (List ℕ)) →
       Reads Such (one (λ i. with (whole_of low high i) k) args)
   asked-reads low high k f args = one-reads _ (λ i. with-reads (whole_of low high i) k (λ v e. f v)) args
 
@@ -131,7 +144,6 @@ set_silent meaning.Identity args = omega arith
 set_silent meaning.Points args = omega arith
 set_silent (meaning.Trace form) args = omega arith
 set_silent (meaning.Act a) args = alone-reads Silent (Act a) tt args
-set_silent meaning.Unknown args = omega arith
 
 -- a text without a byte does not begin with it
 begins-other : (b : ℕ) (s : List ℕ) → Without b s → begins b s ≡ false
@@ -140,13 +152,15 @@ begins-other b [] h = refl
 begins-other b (x ∷ s) h = (or-none (eqb x b) (has b s) h).0
 
 -- a text without "?" replies nothing
-pub silent_parsed : (text : List ℕ) → Without question_mark text → Reads Silent (parsed_of text)
+pub silent_parsed : (text : List ℕ) → Without question_mark text → Parses Silent (parsed_of text)
 unfolding parsed_of
 silent_parsed [] h = tt
 silent_parsed (b ∷ bs) h =
-    rw (begins-other question_mark (drop 4 (b ∷ bs)) (without_drop question_mark 4 (b ∷ bs) h))
-    (cond_by (Reads Silent) (ltb (length (b ∷ bs)) 4) (λ e. omega arith)
-    (λ e. set_silent (meaning_of (take 4 (b ∷ bs))) (arguments (drop 4 (b ∷ bs)))))
+    let s = b ∷ bs in
+    parses Silent (read_as s)
+    (rw (begins-other question_mark (drop 4 s) (without_drop question_mark 4 s h))
+    (cond_by (Reads Silent) (ltb (length s) 4) (λ e. omega arith)
+    (λ e. known-reads Silent (meaning_of (take 4 s)) _ (λ m f. set_silent m (arguments (drop 4 s))))))
 
 -- ---- without ","
 
@@ -199,7 +213,6 @@ in_table name meaning.Identity = true
 in_table name meaning.Points = true
 in_table name (meaning.Trace form) = true
 in_table name (meaning.Act a) = true
-in_table name meaning.Unknown = true
 
 -- which is so of every name
 all_in_table : all (named_by in_table) commands ≡ true
@@ -207,10 +220,10 @@ unfolding in_table
 all_in_table = refl
 
 -- and of what it stands for
-entry_in_table : (name : List ℕ) (entry : ℕ) → meaning_of name ≡ meaning.Setting entry → entry < entries
+entry_in_table : (name : List ℕ) (entry : ℕ) → meaning_of name ≡ Some (meaning.Setting entry) → entry < entries
 unfolding in_table
 entry_in_table name entry e =
-    ltb-true entry entries (rw e at (name_rule in_table all_in_table name refl))
+    ltb-true entry entries (name_rule in_table all_in_table name (meaning.Setting entry) e)
 
 -- a value that a state may keep fits its field
 valid-fits : (entry v : ℕ) → value_valid entry v ≡ true → v < 4294967296
@@ -221,7 +234,7 @@ valid-fits entry v h =
     omega (arith, leb-true v (row_of entry).most below.0, row_size entry)
 
 -- a name and one argument at most, read without "?"
-set_brief : (name : List ℕ) (m : Meaning) → meaning_of name ≡ m → (s : List ℕ) → Without comma s →
+set_brief : (name : List ℕ) (m : Meaning) → meaning_of name ≡ Some m → (s : List ℕ) → Without comma s →
     Reads Brief (set_with m (arguments s))
 unfolding set_with set_setting set_channel set_channel_pair set_enable two three
 set_brief name (meaning.Setting entry) e s h =
@@ -242,7 +255,6 @@ set_brief name meaning.Identity e s h = omega arith
 set_brief name meaning.Points e s h = omega arith
 set_brief name (meaning.Trace form) e s h = omega arith
 set_brief name (meaning.Act a) e s h = alone-reads Brief (Act a) tt (arguments s)
-set_brief name meaning.Unknown e s h = omega arith
 
 -- and with it
 query_brief : (m : Meaning) (s : List ℕ) → Without comma s → Reads Brief (query_with m (arguments s))
@@ -261,15 +273,15 @@ query_brief meaning.Points s h = alone-reads Brief (Query query.Points) tt (argu
 query_brief (meaning.Trace form) s h =
     argument_by (λ args. Reads Brief (query_with (meaning.Trace form) args)) (omega arith) (λ a. omega arith) s h
 query_brief (meaning.Act a) s h = omega arith
-query_brief meaning.Unknown s h = omega arith
 
 -- a text without "," is a command of at most one argument
-pub brief_parsed : (text : List ℕ) → Without comma text → Reads Brief (parsed_of text)
+pub brief_parsed : (text : List ℕ) → Without comma text → Parses Brief (parsed_of text)
 unfolding parsed_of
 brief_parsed [] h = tt
 brief_parsed (b ∷ bs) h =
     let s = b ∷ bs in
-    cond_by (Reads Brief) (ltb (length s) 4) (λ e. omega arith)
-    (λ e. cond_by (Reads Brief) (begins question_mark (drop 4 s))
-    (λ f. query_brief (meaning_of (take 4 s)) (drop 5 s) (without_drop comma 5 s h))
-    (λ f. set_brief (take 4 s) (meaning_of (take 4 s)) refl (drop 4 s) (without_drop comma 4 s h)))
+    parses Brief (read_as s)
+    (cond_by (Reads Brief) (ltb (length s) 4) (λ e. omega arith)
+    (λ e. known-reads Brief (meaning_of (take 4 s)) _ (λ m g. cond_by (Reads Brief) (begins question_mark (drop 4 s))
+    (λ f. query_brief m (drop 5 s) (without_drop comma 5 s h))
+    (λ f. set_brief (take 4 s) m g (drop 4 s) (without_drop comma 4 s h)))))

@@ -11,7 +11,7 @@ use lib.ListN.{length, take, drop, length-append}
 use Rattle.split.specs.Divide.{span, parts}
 use Rattle.split.proofs.Span.{part_first, part_last, part_more}
 use Rattle.outcome.specs.declared.Refusal.TheVariants.{NotAllowed, NoRoom}
-use Rattle.outcome.specs.declared.Outcome.TheVariants.{Done}
+use Rattle.outcome.specs.Code.{done}
 use Rattle.command.specs.Parsed.{parsed_of}
 use Rattle.command.specs.declared.Kind.{Kind}
 use Rattle.line_text.specs.Texts.{semicolon}
@@ -44,7 +44,7 @@ module _ (room : ℕ) (waiting : Bool) (kind : Kind) (s : State) (one two : List
 
       -- it is done
       pub dry_done : n ≤ room →
-          record { state = state_after kind s; written = n; outcome = Done }
+          record { state = state_after kind s; written = n; outcome = done }
           ≡ command_result (performed room waiting kind s one two)
       unfolding performed done_by fits_in
       dry_done h = rw (allowed, le-leb (length (reply_of kind s waiting one two)) room (omega arith), long)

@@ -7,16 +7,15 @@ use native.Mathlib.Omega.{arith}
 use borrow.Author.Tests.{le-leb, ne_eqb, ltb-true, not-true}
 use lib.Dec.{ltb}
 use lib.ListN.{length, length-append}
+use Rattle.std.specs.Prelude.{Some, None, Ok, Err}
 use Rattle.laws.proofs.Tests.{split, cond_by}
 use Rattle.outcome.specs.Code.{code_of}
 use Rattle.outcome.specs.Answer.{is_no_room, drops}
 use Rattle.outcome.specs.declared.Refusal.{Refusal}
 use Rattle.command.specs.Arguments.{question_mark, comma}
-use Rattle.command.specs.Parsed.{parsed_of}
+use Rattle.command.specs.Parsed.{Parsed, parsed_of}
 use Rattle.command.specs.declared.Kind.{Kind}
 use Rattle.command.specs.declared.Kind.TheVariants.{Set, Query, Act}
-use Rattle.command.specs.declared.Parsed.{Parsed}
-use Rattle.command.specs.declared.Parsed.TheVariants.{Empty, Taken, Refused}
 use Rattle.state.specs.State.{with_error_bit}
 use Rattle.state.specs.declared.State.{State}
 use Rattle.precondition.specs.Allowed.{is_allowed}
@@ -27,7 +26,7 @@ use Rattle.line.specs.Perform.{Effect, done_by, performed, command_of}
 use Rattle.line.specs.Line.{Line, waits, after_of, after_command, run_all, start_line}
 use Rattle.line.specs.Parts.{texts_run, has, text_most, must_fit}
 use Rattle.line.proofs.Bytes.{Every, Without, without_texts, texts_length}
-use Rattle.line.proofs.Brief.{Reads, Silent, Brief, silent_parsed, brief_parsed}
+use Rattle.line.proofs.Brief.{Parses, Silent, Brief, silent_parsed, brief_parsed}
 use Rattle.line.proofs.Sized.{Sized, marked_sized, after_sized, reply-short}
 
 -- the most bytes that the commands of these texts reply, where each replies `most` at most
@@ -49,13 +48,13 @@ module _ (Fit : State → Type 0) (Such : Kind → Type 0) (most : ℕ)
       fit : Fit e.after
 
     -- with room for the most that it replies none does
-    command-passes : (room : ℕ) (waiting : Bool) (p : Parsed) (s : State) (one two : List ℕ) → Reads Such p → Fit s →
+    command-passes : (room : ℕ) (waiting : Bool) (p : Parsed) (s : State) (one two : List ℕ) → Parses Such p → Fit s →
         most ≤ room → Passes (command_of room waiting p s one two)
     unfolding command_of performed done_by fits_in drops is_no_room
-    command-passes room waiting Empty s one two k h l = record { keeps = refl; small = omega arith; fit = h }
-    command-passes room waiting (Refused r) s one two k h l =
+    command-passes room waiting (Ok None) s one two k h l = record { keeps = refl; small = omega arith; fit = h }
+    command-passes room waiting (Err r) s one two k h l =
         record { keeps = ne_eqb (code_of r).number 4 (λ e. omega arith); small = omega arith; fit = marked r s h }
-    command-passes room waiting (Taken c) s one two k h l =
+    command-passes room waiting (Ok (Some c)) s one two k h l =
         let reply = short c.kind s waiting one two k h in
         rw (le-leb (length (reply_of c.kind s waiting one two)) room (omega arith))
         (cond_by Passes (is_allowed s.settings s.acquisition c.kind)
@@ -69,7 +68,7 @@ module _ (Fit : State → Type 0) (Such : Kind → Type 0) (most : ℕ)
       fit : Fit n.after
 
     -- one more command
-    step_goes : (room : ℕ) (text : List ℕ) (l : Line) → Reads Such (parsed_of text) → Fit l.after →
+    step_goes : (room : ℕ) (text : List ℕ) (l : Line) → Parses Such (parsed_of text) → Fit l.after →
         length l.out + most ≤ room → Goes l (after_command room text l)
     unfolding after_command after_of
     step_goes room text l k h r =
@@ -79,7 +78,7 @@ module _ (Fit : State → Type 0) (Such : Kind → Type 0) (most : ℕ)
         record { keeps = p.keeps; small = rw length-append (omega (arith, p.small)); fit = p.fit }
 
     -- so a line with room for all of them comes to its end
-    run-passes : (room : ℕ) (texts : List (List ℕ)) (l : Line) → Every (λ text. Reads Such (parsed_of text)) texts →
+    run-passes : (room : ℕ) (texts : List (List ℕ)) (l : Line) → Every (λ text. Parses Such (parsed_of text)) texts →
         Fit l.after → l.report.dropped ≡ false → length l.out + all_most most texts ≤ room →
         (run_all room texts l).report.dropped ≡ false
     unfolding run_all
@@ -93,8 +92,8 @@ module _ (Fit : State → Type 0) (Such : Kind → Type 0) (most : ℕ)
 -- ---- the two ways
 
 -- what each text is read as, from the byte that none has
-every-reads : (Such : Kind → Type 0) (b : ℕ) → ((text : List ℕ) → Without b text → Reads Such (parsed_of text)) →
-    (texts : List (List ℕ)) → Every (Without b) texts → Every (λ text. Reads Such (parsed_of text)) texts
+every-reads : (Such : Kind → Type 0) (b : ℕ) → ((text : List ℕ) → Without b text → Parses Such (parsed_of text)) →
+    (texts : List (List ℕ)) → Every (Without b) texts → Every (λ text. Parses Such (parsed_of text)) texts
 every-reads Such b f [] h = tt
 every-reads Such b f (text ∷ more) h = (f text h.0, every-reads Such b f more h.1)
 

@@ -1,13 +1,11 @@
 -- What a line does, command by command: §2.6, §2.7, §2.8, §12.4 and §12.13.
 use Rattle.std.specs.Prelude.{ℕ, ◌+◌, ◌-◌, Bool, false, cond, List, [], ◌∷◌, ◌++◌, ltb, length}
 use Rattle.line_text.specs.Texts.{texts_of}
-use Rattle.outcome.specs.Answer.{first_of, drops}
+use Rattle.outcome.specs.Answer.{first_of, drops, Answer, passed}
 use Rattle.command.specs.Parsed.{parsed_of}
 use Rattle.state.specs.declared.State.{State}
 use Rattle.reply_buffer.specs.After.{After, silent}
 use Rattle.line.specs.Perform.{Effect, command_of}
-use Rattle.outcome.specs.declared.Answer.{Answer}
-use Rattle.outcome.specs.declared.Answer.TheVariants.{Passed}
 
 -- §2.7: what is known of a line on its way: the answer so far; §2.6: how many commands there were; §12.4: whether the
 -- rest is dropped
@@ -55,7 +53,7 @@ run_all room (text ∷ more) l =
 
 -- §2.7: a line before its first command: nothing is refused
 abbrev pub start_line : State → List ℕ → List ℕ → Line
-start_line s one two = silent (record { answer = Passed; count = 0; dropped = false }) s one two
+start_line s one two = silent (record { answer = passed; count = 0; dropped = false }) s one two
 
 -- §2.6: what a line of at most 256 bytes does, where `room` bytes are lent for its replies
 unfoldable pub line_of : ℕ → List ℕ → State → List ℕ → List ℕ → Line

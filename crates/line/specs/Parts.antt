@@ -1,12 +1,11 @@
 -- What the code gives back for a command and for a line on its way (§2.6, §2.7), and which lines surely find room for
 -- their replies (§12.4, §12.13). No promise of a public call speaks of these.
-use Rattle.std.specs.Prelude.{ℕ, ◌+◌, ◌/◌, Bool, false, not, ◌&&◌, ◌||◌, List, [], ◌∷◌, ltb, eqb, length, take}
+use Rattle.std.specs.Prelude.{ℕ, ◌+◌, ◌/◌, Bool, false, not, ◌&&◌, ◌||◌, List, [], ◌∷◌, ltb, eqb, length, take, Err}
 use Rattle.split.specs.Divide.{parts}
 use Rattle.command.specs.Arguments.{question_mark, comma}
 use Rattle.line_text.specs.Clean.{line_limit, cleaned}
 use Rattle.line_text.specs.Texts.{semicolon}
 use Rattle.outcome.specs.declared.Refusal.{Refusal}
-use Rattle.outcome.specs.declared.Outcome.TheVariants as outcome
 use Rattle.outcome.specs.Answer.{first_of, drops}
 use Rattle.state.specs.State.{with_error_bit}
 use Rattle.state.specs.declared.State.{State}
@@ -21,7 +20,7 @@ command_result e = record { state = e.after; written = length e.out; outcome = e
 
 -- the code's answer for a refused command
 abbrev pub refused_with : Refusal → State → CommandResult
-refused_with r s = record { state = with_error_bit r s; written = 0; outcome = outcome.Refused r }
+refused_with r s = record { state = with_error_bit r s; written = 0; outcome = Err r }
 
 -- the commands that the code runs of a line of any length: those among its first bytes that count (§2.5), as many as a
 -- line may have, which are all where the line is not too long

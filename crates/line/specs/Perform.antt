@@ -1,12 +1,10 @@
 -- What one command does to the state, the traces and the reply: §1.1, §2.6, §12.1, §12.2, §12.3, §12.4 and §12.12.
-use Rattle.std.specs.Prelude.{ℕ, Bool, cond, List}
+use Rattle.std.specs.Prelude.{ℕ, Bool, cond, List, Err, Some, None, Ok}
 use Rattle.outcome.specs.declared.Refusal.{Refusal}
 use Rattle.outcome.specs.declared.Refusal.TheVariants.{NotAllowed, NoRoom}
-use Rattle.outcome.specs.declared.Outcome.{Outcome}
-use Rattle.outcome.specs.declared.Outcome.TheVariants as outcome
+use Rattle.outcome.specs.Code.{Outcome, done}
 use Rattle.command.specs.declared.Kind.{Kind}
-use Rattle.command.specs.declared.Parsed.{Parsed}
-use Rattle.command.specs.declared.Parsed.TheVariants.{Empty, Taken, Refused}
+use Rattle.command.specs.Parsed.{Parsed}
 use Rattle.storage.specs.declared.StorageStep.{StorageStep}
 use Rattle.state.specs.State.{with_error_bit}
 use Rattle.state.specs.Storing.{stored_in}
@@ -23,11 +21,11 @@ Effect = After State Outcome
 
 -- §12.1, §12.2, §12.3 and §12.4: a refused command: its error bit, and nothing else
 abbrev pub refused_by : Refusal → State → List ℕ → List ℕ → Effect
-refused_by r s one two = silent (outcome.Refused r) (with_error_bit r s) one two
+refused_by r s one two = silent (Err r) (with_error_bit r s) one two
 
 -- §2.6: an empty command, which does nothing
 abbrev pub nothing : State → List ℕ → List ℕ → Effect
-nothing s one two = silent outcome.Done s one two
+nothing s one two = silent done s one two
 
 -- §7.2 and §7.6: what a command does to storage
 abbrev pub storage_step_by : Kind → State → StorageStep
@@ -41,7 +39,7 @@ done_by kind reply s one two =
       one = stored_in (storage_step_by kind s) s s.latest.one one;
       two = stored_in (storage_step_by kind s) s s.latest.two two;
       out = reply;
-      report = outcome.Done;
+      report = done;
     }
 
 -- §12.12: 3 comes first, where the state does not allow the command (§12.3); then 4, where its reply does not fit
@@ -55,6 +53,6 @@ performed room waiting kind s one two =
 
 -- §12.12: a command's text as it is read: refused by 1 or 2, empty, or performed
 unfoldable pub command_of : ℕ → Bool → Parsed → State → List ℕ → List ℕ → Effect
-command_of room waiting Empty s one two = nothing s one two
-command_of room waiting (Refused r) s one two = refused_by r s one two
-command_of room waiting (Taken c) s one two = performed room waiting c.kind s one two
+command_of room waiting (Ok None) s one two = nothing s one two
+command_of room waiting (Err r) s one two = refused_by r s one two
+command_of room waiting (Ok (Some c)) s one two = performed room waiting c.kind s one two

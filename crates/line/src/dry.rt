@@ -9,8 +9,8 @@ ghost use Rattle.line.specs.Line.{Line, after_command, run_all, start_line};
 ghost use Rattle.line.specs.Parts.{command_result, progress_of, texts_run};
 
 use crate::{CommandResult, Progress, after, refused};
-use command::{Command, Parsed};
-use outcome::{Answer, Outcome, Refusal};
+use command::Command;
+use outcome::Refusal;
 use state::State;
 
 // What a command that is read would leave, where `room` bytes are left for its reply: refused by 3 or 4, or done.
@@ -31,13 +31,14 @@ fn perform(s: State, c: Command, waiting: bool, room: usize) -> CommandResult
         return CommandResult {
             state: effect::state_after(s, kind, p),
             written,
-            outcome: Outcome::Done,
+            outcome: Ok(()),
         };
     }
     refused(s, Refusal::NotAllowed)
 }
 
 // What a command's text would come to: empty, refused by 1 or 2, or performed.
+#[tactic(auto, unfolding(crate::specs::Perform::command_of))]
 fn take_command(s: State, text: &[u8], waiting: bool, room: usize) -> CommandResult
     ensures value { (one two : List ℕ) →
         result ≡ command_result (command_of room waiting (parsed_of text.now) s one two) }
@@ -45,13 +46,13 @@ fn take_command(s: State, text: &[u8], waiting: bool, room: usize) -> CommandRes
 {
     let parsed = command::parse(text);
     match parsed {
-        Parsed::Empty => CommandResult {
+        Ok(None) => CommandResult {
             state: s,
             written: 0,
-            outcome: Outcome::Done,
+            outcome: Ok(()),
         },
-        Parsed::Refused(refusal) => refused(s, refusal),
-        Parsed::Taken(c) => perform(s, c, waiting, room),
+        Err(refusal) => refused(s, refusal),
+        Ok(Some(c)) => perform(s, c, waiting, room),
     }
 }
 
@@ -76,7 +77,7 @@ fn run(s: State, text: &[u8], room: usize) -> Progress
     let mut p = Progress {
         state: s,
         at: 0,
-        answer: Answer::Passed,
+        answer: Ok(()),
         count: 0,
         dropped: false,
     };

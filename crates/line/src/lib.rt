@@ -13,7 +13,7 @@ ghost use Rattle.reply_buffer.specs.After.{Meets};
 mod dry;
 mod quick;
 
-use command::{Command, Parsed};
+use command::Command;
 use outcome::{Answer, Outcome, Refusal};
 use state::State;
 
@@ -43,7 +43,7 @@ fn refused(s: State, refusal: Refusal) -> CommandResult
     CommandResult {
         state: state::with_error_bit(s, refusal),
         written: 0,
-        outcome: Outcome::Refused(refusal),
+        outcome: Err(refusal),
     }
 }
 
@@ -65,25 +65,24 @@ fn perform(
     let acquisition = s.acquisition;
     let allowed = precondition::is_allowed(s.settings, acquisition, kind);
     if allowed {
-        let sent = reply::send_reply(s, kind, waiting, &one[..], &two[..], out);
-        let fits = sent.fits;
-        if fits {
-            let installation = s.installation;
-            let p = effect::storage_after(s.settings, acquisition, installation.capacity, kind);
-            let next = effect::state_after(s, kind, p);
-            state::store(s, p, one, two);
-            return CommandResult {
-                state: next,
-                written: sent.written,
-                outcome: Outcome::Done,
-            };
-        }
-        return refused(s, Refusal::NoRoom);
+        let Some(written) = reply::send_reply(s, kind, waiting, &one[..], &two[..], out) else {
+            return refused(s, Refusal::NoRoom);
+        };
+        let installation = s.installation;
+        let p = effect::storage_after(s.settings, acquisition, installation.capacity, kind);
+        let next = effect::state_after(s, kind, p);
+        state::store(s, p, one, two);
+        return CommandResult {
+            state: next,
+            written,
+            outcome: Ok(()),
+        };
     }
     refused(s, Refusal::NotAllowed)
 }
 
 // A command's text: empty, refused by 1 or 2, or performed.
+#[tactic(auto, unfolding(crate::specs::Perform::command_of))]
 fn take_command(
     s: State,
     text: &[u8],
@@ -100,13 +99,13 @@ fn take_command(
 {
     let parsed = command::parse(text);
     match parsed {
-        Parsed::Empty => CommandResult {
+        Ok(None) => CommandResult {
             state: s,
             written: 0,
-            outcome: Outcome::Done,
+            outcome: Ok(()),
         },
-        Parsed::Refused(refusal) => refused(s, refusal),
-        Parsed::Taken(c) => perform(s, c, waiting, one, two, out),
+        Err(refusal) => refused(s, refusal),
+        Ok(Some(c)) => perform(s, c, waiting, one, two, out),
     }
 }
 
@@ -154,7 +153,7 @@ fn run(s: State, text: &[u8], one: &mut [u32], two: &mut [u32], reply: &mut [u8]
     let mut p = Progress {
         state: s,
         at: 0,
-        answer: Answer::Passed,
+        answer: Ok(()),
         count: 0,
         dropped: false,
     };

@@ -7,10 +7,7 @@ ghost use Rattle.line_text.specs.Clean.{line_limit, is_dropped, capital, cleaned
 // The most bytes that a line has before its end.
 pub const LINE: usize = 256;
 
-// How far a capital letter is below its small one.
-const CASE: u8 = b'a' - b'A';
-
-// A line as its commands are read.
+// A line as its commands are read, in a fixed room, since there is no heap.
 #[derive(Clone, Copy)]
 pub struct Cleaned {
     // The line, then bytes that do not count.
@@ -19,27 +16,28 @@ pub struct Cleaned {
     pub len: usize,
 }
 
+impl Cleaned {
+    // The line alone.
+    pub fn line(&self) -> &[u8]
+        requires { self.now.len ≤ line_limit }
+        ensures { result.now ≡ shown self.now }
+    {
+        &self.bytes[..self.len]
+    }
+}
+
 // Whether a byte is left out wherever it is: space and CR.
 fn is_dropped(b: u8) -> bool
     ensures { result ≡ is_dropped b }
 {
-    if b == b' ' {
-        return true;
-    }
-    b == b'\r'
+    b == b' ' || b == b'\r'
 }
 
 // A small letter as its capital; any other byte as it is.
 fn capital_of(b: u8) -> u8
     ensures { result ≡ capital b }
 {
-    if b < b'a' {
-        return b;
-    }
-    if b'z' < b {
-        return b;
-    }
-    b - CASE
+    b.to_ascii_uppercase()
 }
 
 // The bytes of a line that count, the first LINE of them: all of a line that is not too long.
@@ -48,18 +46,10 @@ pub fn clean(line: &[u8]) -> Cleaned
 {
     let mut bytes = [0u8; LINE];
     let mut len = 0;
-    let mut i = 0;
-    while i < line.len() {
-        let b = line[i];
-        let skip = is_dropped(b);
-        if skip {
-            i += 1;
-        } else if len < LINE {
-            bytes[len] = capital_of(b);
+    for b in line {
+        if !is_dropped(*b) && len < LINE {
+            bytes[len] = capital_of(*b);
             len += 1;
-            i += 1;
-        } else {
-            i += 1;
         }
     }
     Cleaned { bytes, len }

@@ -11,9 +11,9 @@ use borrow.Author.Tests.{eqb-true, eqb-false, eq-eqb, ne_eqb}
 use lib.Dec.{ltb, eqb}
 use lib.ListN.{length, take, drop, get_or, take-append-drop, length-append, length-drop, drop_of_length-le}
 use lib.Seq.{drop-cons, length-take-le}
+use Rattle.std.specs.Prelude.{Ok, Err}
 use Rattle.laws.proofs.Tests.{split, cond_by}
-use Rattle.outcome.specs.declared.Answer.{Answer}
-use Rattle.outcome.specs.declared.Answer.TheVariants.{Passed, Refused}
+use Rattle.outcome.specs.Answer.{Answer, passed}
 use Rattle.queue.specs.Queue.{line_limit, is_end, received_of}
 use Rattle.queue.specs.Parts.{queue_of, bytes_with, Describes}
 use Rattle.queue.specs.declared.QueueStep.{QueueStep}
@@ -37,15 +37,15 @@ use Rattle.module.specs.declared.Module.{Module}
 -- ---- answers
 
 -- a byte that is not refused leaves the first refusal and its line as they were
-first-passed : (a : Answer) → first_answer a Passed ≡ a
+first-passed : (a : Answer) → first_answer a passed ≡ a
 unfolding first_answer
-first-passed Passed = refl
-first-passed (Refused r place) = refl
+first-passed (Ok _) = refl
+first-passed (Err e) = refl
 
-line-passed : (a : Answer) (line here : ℕ) → first_line a line Passed here ≡ line
+line-passed : (a : Answer) (line here : ℕ) → first_line a line passed here ≡ line
 unfolding first_line
-line-passed Passed line here = refl
-line-passed (Refused r place) line here = refl
+line-passed (Ok _) line here = refl
+line-passed (Err e) line here = refl
 
 -- ---- what is written
 

@@ -8,11 +8,10 @@ use lib.Dec.{leb, ltb}
 use lib.ListN.{length, take, set, length-set}
 use lib.Seq.{take_all}
 use borrow.Author.Tests.{leb-true, leb-false}
+use Rattle.std.specs.Prelude.{Ok, Err}
 use Rattle.outcome.specs.declared.Refusal.{Refusal}
-use Rattle.outcome.specs.declared.Outcome.{Outcome}
-use Rattle.outcome.specs.declared.Outcome.TheVariants as outcome
 use Rattle.outcome.specs.declared.Report.{Report}
-use Rattle.outcome.specs.Code.{number_of}
+use Rattle.outcome.specs.Code.{number_of, Outcome}
 use Rattle.outcome.specs.Answer.{numbers_of}
 use Rattle.state.specs.declared.State.{State}
 use Rattle.queue.specs.Queue.{line_limit}
@@ -57,8 +56,8 @@ guarded-queue : {R : Type 0} (report : Refusal → R) (o : Outcome) (step : Afte
     guarded report o (with_queue m.queue step) m one two
     ≡ with_queue m.queue (guarded report o step m.state one two)
 unfolding guarded
-guarded-queue report outcome.Done step m one two = refl
-guarded-queue report (outcome.Refused r) step m one two = refl
+guarded-queue report (Ok _) step m one two = refl
+guarded-queue report (Err r) step m one two = refl
 
 -- ---- lengths
 
@@ -123,8 +122,8 @@ module _ (room b : ℕ) (mark : Bool) (m : Module) (one two : List ℕ) (step : 
       guarded refused_whole o (byte_received room b mark m one two) m one two
       ≡ with_queue queued (guarded refused_whole o end m.state one two)
   unfolding guarded GuardedStep byte_received received_call
-  guarded-byte outcome.Done g = rw (g.received m.queue.bytes, g.run stored)
-  guarded-byte (outcome.Refused r) g = rw g
+  guarded-byte (Ok _) g = rw (g.received m.queue.bytes, g.run stored)
+  guarded-byte (Err r) g = rw g
 
 -- the code's parts, each as its function says, answer as the byte's call does
 pub byte-answers : (room b : ℕ) (mark : Bool) (m : Module) (one two : List ℕ) (step : QueueStep) {o : Outcome}
@@ -150,14 +149,14 @@ byte-answers room b mark m one two step {o = o} {bytes = bytes} long guard stepp
 -- the code's parts, each as its function says, are what the event's call is
 pub event-answers : (e : Event) (m : Module) (one two : List ℕ) {o : Outcome} {h : EventEffect} {one' two' : List ℕ} →
     o ≡ guard_of m (length one) (length two) →
-    Meets event_effect (guarded outcome.Refused o (event_of e m.state one two) m.state one two) h one' two' [] [] →
+    Meets event_effect (guarded Err o (event_of e m.state one two) m.state one two) h one' two' [] [] →
     let taken : EventResult = record { after = record { queue = m.queue; state = h.state }; outcome = h.outcome } in
     Meets event_result (event_call e m one two) taken one' two' [] []
     × (number_of h.outcome ≡ number_of (event_call e m one two).report)
 unfolding event_call
 event-answers e m one two {o = o} guard h =
     let report = ap (λ r. r.outcome) h.result in
-    rw (← guard, guarded-queue outcome.Refused o _ m one two) (
+    rw (← guard, guarded-queue Err o _ m one two) (
       record { result = rw h.result; first = h.first; second = h.second; reply = h.reply },
       ap number_of report,
     )

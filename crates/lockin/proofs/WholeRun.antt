@@ -9,9 +9,10 @@ use borrow.Author.Tests.{leb-true, leb-false}
 use lib.Dec.{leb}
 use lib.ListN.{length, take, drop, get_or, length-append, length-drop, drop_of_length-le}
 use lib.Seq.{take-append-le, drop-append-le, drop-append-add, drop-drop, drop-length, length-take-le}
+use Rattle.std.specs.Prelude.{Err}
 use Rattle.laws.proofs.Tests.{split}
 use Rattle.outcome.specs.declared.Refusal.{Refusal}
-use Rattle.outcome.specs.declared.Outcome.TheVariants as outcome
+use Rattle.outcome.specs.Code as outcome
 use Rattle.queue.specs.Queue.{waiting_bytes, is_end, received_of}
 use Rattle.reply_buffer.specs.Buffer.{overwrite}
 use Rattle.reply_buffer.specs.After.{After, Meets}
@@ -247,7 +248,7 @@ RunAnswers c r one two new old =
 module _ (bytes : List ℕ) (mark : Bool) (m : Module) (one two : List ℕ) where
   -- a run that 11 and 9 let be done
   pub run-answers : {p : RunProgress} {one' two' new old : List ℕ} →
-      guard_of m (length one) (length two) ≡ outcome.Done →
+      guard_of m (length one) (length two) ≡ outcome.done →
       Meets progress_of (run_from (length old) mark bytes (start_run m one two)) p one' two' new old →
       RunAnswers (run_call (length old) bytes mark m one two) (result_at p) one' two' new old
   unfolding run_call guarded
@@ -259,7 +260,7 @@ module _ (bytes : List ℕ) (mark : Bool) (m : Module) (one two : List ℕ) wher
 
   -- one that 11 or 9 refuses
   pub run-refused : {refusal : Refusal} (old : List ℕ) →
-      guard_of m (length one) (length two) ≡ outcome.Refused refusal →
+      guard_of m (length one) (length two) ≡ Err refusal →
       RunAnswers (run_call (length old) bytes mark m one two) (record { after = m; report = refused_run refusal })
       one two old old
   unfolding run_call guarded

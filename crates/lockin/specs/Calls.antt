@@ -1,13 +1,11 @@
 -- What the public calls on a module do, for every input: §1.1, §1.4, §1.5, §2.2, §2.3, §2.4, §10.7, §12.5, §12.11 and
 -- §12.12.
-use Rattle.std.specs.Prelude.{ℕ, Bool, cond, List, leb, length}
+use Rattle.std.specs.Prelude.{ℕ, Bool, cond, List, leb, length, Ok, Err}
 use Rattle.outcome.specs.declared.Refusal.{Refusal}
 use Rattle.outcome.specs.declared.Refusal.TheVariants.{LongLine, BadState}
-use Rattle.outcome.specs.declared.Outcome.{Outcome}
-use Rattle.outcome.specs.declared.Outcome.TheVariants as outcome
-use Rattle.outcome.specs.declared.Answer.TheVariants as answer
+use Rattle.outcome.specs.Code.{Outcome, done}
 use Rattle.outcome.specs.declared.Report.{Report}
-use Rattle.outcome.specs.Answer.{report_of}
+use Rattle.outcome.specs.Answer.{report_of, passed, refused_at}
 use Rattle.state.specs.State.{with_error_bit}
 use Rattle.state.specs.declared.State.{State}
 use Rattle.queue.specs.Queue as queue
@@ -54,14 +52,14 @@ with_queue q step =
 -- §1.4: where 11 (§12.11) or 9 (§12.9) refuses a call, the state or the module stays as it was, and the refusal is
 -- reported
 unfoldable pub guarded : {S R : Type 0} → (Refusal → R) → Outcome → After S R → S → List ℕ → List ℕ → After S R
-guarded report outcome.Done step s one two = step
-guarded report (outcome.Refused r) step s one two = silent (report r) s one two
+guarded report (Ok _) step s one two = step
+guarded report (Err r) step s one two = silent (report r) s one two
 
 -- ---- lines and bytes
 
 -- §1.5: what is reported where no command of a line has its turn: place 0 (§12.5), length 0
 abbrev pub refused_whole : Refusal → Report
-refused_whole r = report_of (answer.Refused r 0) 0
+refused_whole r = report_of (refused_at r 0) 0
 
 -- §1.5: the length reported of a line; §12.4: 0 where 4 refused a command of it
 abbrev pub reported_length : Line → ℕ
@@ -84,7 +82,7 @@ long_line s one two = silent (refused_whole LongLine) (with_error_bit LongLine s
 
 -- §2.2 and §2.3: what comes of a line's end, where the line is `text`, of a line too long, or of neither (§1.5)
 unfoldable pub line_end : LineEnd → ℕ → List ℕ → State → List ℕ → List ℕ → After State Report
-line_end ending.Nothing room text s one two = silent (report_of answer.Passed 0) s one two
+line_end ending.Nothing room text s one two = silent (report_of passed 0) s one two
 line_end ending.Line room text s one two = line_ran (line_of room text s one two)
 line_end ending.TooLong room text s one two = long_line s one two
 
@@ -124,12 +122,12 @@ byte_call room b mark m one two =
 -- §1.4 and §1.5: a call with an event; the queue stays as it is; §12.12: 11, 9, then 6
 unfoldable pub event_call : Event → Module → List ℕ → List ℕ → EventCall
 event_call e m one two =
-    guarded outcome.Refused (guard_of m (length one) (length two))
+    guarded Err (guard_of m (length one) (length two))
     (with_queue m.queue (event_of e m.state one two)) m one two
 
 -- §10.7: a serial poll: the status byte between lines; §1.4: it is lent no traces; §12.11: 0 where 11 refuses the state
 unfoldable pub poll_call : Module → PollResult
 poll_call m =
     cond (valid_module m)
-    (record { status = status_between m.state; outcome = outcome.Done })
-    (record { status = 0; outcome = outcome.Refused BadState })
+    (record { status = status_between m.state; outcome = done })
+    (record { status = 0; outcome = Err BadState })

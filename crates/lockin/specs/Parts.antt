@@ -1,7 +1,6 @@
 -- What only the code's inner functions are held to (§1.4, §1.5). No public call's promise speaks of these.
-use Rattle.std.specs.Prelude.{ℕ, ◌+◌, Bool, false, cond, ◌≡◌, List}
-use Rattle.outcome.specs.declared.Outcome.{Outcome}
-use Rattle.outcome.specs.declared.Outcome.TheVariants as outcome
+use Rattle.std.specs.Prelude.{ℕ, ◌+◌, Bool, false, cond, ◌≡◌, List, Ok, Err}
+use Rattle.outcome.specs.Code.{Outcome}
 use Rattle.outcome.specs.declared.Report.{Report}
 use Rattle.outcome.specs.Answer.{report_of}
 use Rattle.state.specs.declared.State.{State}
@@ -28,9 +27,9 @@ result_of step = record { state = step.after; report = step.report }
 
 -- §1.4: what a byte does to the queue's numbers: nothing where it is refused
 unfoldable pub GuardedStep : Outcome → ℕ → Bool → ℕ → ℕ → Bool → QueueStep → Type 0
-GuardedStep outcome.Done len discarding port b mark r =
+GuardedStep (Ok _) len discarding port b mark r =
     Describes (λ bytes. received_of (queue_of bytes len discarding) port b mark) len b r
-GuardedStep (outcome.Refused x) len discarding port b mark r =
+GuardedStep (Err x) len discarding port b mark r =
     r ≡ record { stores = false; line = len; len = len; discarding = discarding; ending = ending.Nothing }
 
 -- ---- runs

@@ -1,10 +1,9 @@
 -- A run of bytes in one call: §1.6, §2.9 and §2.10.
 use Rattle.std.specs.Prelude.{ℕ, ◌+◌, ◌-◌, Bool, true, false, cond, ◌&&◌, List, [], ◌∷◌, ◌++◌, ltb, length, take, drop}
+use Rattle.std.specs.Prelude.{Ok, Err}
 use Rattle.outcome.specs.declared.Refusal.{Refusal}
-use Rattle.outcome.specs.declared.Answer.{Answer}
-use Rattle.outcome.specs.declared.Answer.TheVariants.{Passed, Refused}
 use Rattle.outcome.specs.declared.Report.{Report}
-use Rattle.outcome.specs.Answer.{report_of, numbers_of}
+use Rattle.outcome.specs.Answer.{report_of, numbers_of, Answer, passed}
 use Rattle.queue.specs.Queue.{is_end, waiting_bytes, received_of}
 use Rattle.queue.specs.declared.LineEnd.{LineEnd}
 use Rattle.queue.specs.declared.LineEnd.TheVariants.{Nothing, Line, TooLong}
@@ -41,14 +40,14 @@ replied_length r = r.report.report.length
 
 -- §1.6: the first refusal of a run, once a further byte has this answer
 unfoldable pub first_answer : Answer → Answer → Answer
-first_answer Passed later = later
-first_answer (Refused r place) later = Refused r place
+first_answer (Ok _) later = later
+first_answer (Err e) later = Err e
 
 -- §1.6: the line of the first refusal, once a further byte in the line `here` has this answer
 unfoldable pub first_line : Answer → ℕ → Answer → ℕ → ℕ
-first_line Passed line Passed here = line
-first_line Passed line (Refused r place) here = here
-first_line (Refused r place) line later here = line
+first_line (Ok _) line (Ok _) here = line
+first_line (Ok _) line (Err e) here = here
+first_line (Err e) line later here = line
 
 -- §2.9: a reply that is written behind the first n bytes of what the run wrote
 abbrev pub written_behind : ℕ → List ℕ → List ℕ → List ℕ
@@ -108,7 +107,7 @@ run_from room mark (b ∷ more) r =
 
 -- §2.9: a run before its first byte
 abbrev pub start_run : Module → List ℕ → List ℕ → Run
-start_run m one two = silent (record { taken = 0; ended = 0; line = 0; report = report_of Passed 0 }) m one two
+start_run m one two = silent (record { taken = 0; ended = 0; line = 0; report = report_of passed 0 }) m one two
 
 -- §1.6: what is reported of a run
 abbrev pub run_report : RunTally → RunReport

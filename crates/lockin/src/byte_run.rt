@@ -1,9 +1,8 @@
 // A run of bytes in one call (§2.9, §2.10). The state is tested once; a byte that ends no line touches the queue alone;
 // a line that ends runs from the queue, and writes behind the replies of the lines before it.
-ghost use Rattle.std.specs.Prelude.{◌≡◌, true, cond, ◌&&◌, List, ℕ, ◌+◌, ◌-◌, ◌≤◌, ◌<◌, ltb, length, drop};
+ghost use Rattle.std.specs.Prelude.{◌≡◌, true, cond, ◌&&◌, List, ℕ, ◌+◌, ◌-◌, ◌≤◌, ◌<◌, ltb, length, drop, is_none, unwrap_or};
 ghost use Rattle.line_text.specs.Clean.{line_limit};
 ghost use Rattle.queue.specs.Queue.{is_end};
-ghost use Rattle.queue.specs.declared.LineEnd.TheVariants.{Nothing};
 ghost use Rattle.reply_buffer.specs.After.{Meets};
 ghost use Rattle.line.specs.Line.{line_of};
 ghost use Rattle.lockin.specs.Calls.{line_end};
@@ -14,7 +13,7 @@ ghost use Rattle.lockin.specs.Parts.{run_at, progress_of, result_at, with_quiet,
 use crate::{StateResult, end_line};
 use line_text::LINE;
 use module::Module;
-use outcome::{Answer, Outcome, Refusal, Report};
+use outcome::{Answer, PlacedRefusal, Refusal, Report};
 use queue::{LineEnd, Queue};
 use state::State;
 
@@ -62,13 +61,6 @@ struct RunProgress {
     report: Report,
 }
 
-// What one more byte leaves of a run: the run with the byte, or the run as it was where it stops before the byte.
-#[derive(Clone, Copy)]
-struct RunStep {
-    stopped: bool,
-    progress: RunProgress,
-}
-
 // A queue after bytes of a run of which none ended a line that can run, but for its bytes; how many bytes of the run
 // are then taken, and how many lines ended.
 #[derive(Clone, Copy)]
@@ -87,65 +79,45 @@ fn marked_at(run: &[u8], mark: bool, at: usize) -> bool
     mark & (at + 1 == run.len())
 }
 
-// Whether nothing comes of a byte but another queue.
-fn is_nothing(ending: LineEnd) -> bool
-    ensures { result ≡ true → ending ≡ Nothing }
-{
-    match ending {
-        LineEnd::Nothing => true,
-        _ => false,
-    }
-}
-
 // How many lines ended in a run once it has one more byte.
 fn count_end(ended: usize, port: u8, b: u8, mark: bool) -> usize
     requires { ended < 9223372036854775808 }
     ensures { result ≡ cond (is_end port b mark) (ended + 1) ended }
 {
-    if queue::is_end(port, b, mark) {
-        return ended + 1;
-    }
-    ended
+    ended + usize::from(queue::is_end(port, b, mark))
 }
 
 // Takes the bytes of a run from an index on, up to one that ends a line or makes it too long.
-fn take_quiet(bytes: &mut [u8; LINE], q: QuietBytes, port: u8, run: &[u8], mark: bool) -> QuietBytes
-    requires { (q.taken ≤ length run.now) × (q.ended ≤ q.taken) }
+fn take_quiet(
+    bytes: &mut [u8; LINE],
+    before: QuietBytes,
+    port: u8,
+    run: &[u8],
+    mark: bool,
+) -> QuietBytes
+    requires { (before.taken ≤ length run.now) × (before.ended ≤ before.taken) }
     ensures goes_on { (room : ℕ) (p : Run) → p.after.state.installation.port ≡ port →
-        run_from room mark (drop q.taken run.now) (with_quiet bytes.old q p)
+        run_from room mark (drop before.taken run.now) (with_quiet bytes.old before p)
         ≡ run_from room mark (drop result.taken run.now) (with_quiet bytes.new result p) }
-    ensures onward { (q.taken ≤ result.taken) × (result.taken ≤ length run.now)
+    ensures onward { (before.taken ≤ result.taken) × (result.taken ≤ length run.now)
         × (result.ended ≤ result.taken) }
 {
-    let mut len = q.len;
-    let mut discarding = q.discarding;
-    let mut ended = q.ended;
-    let mut taken = q.taken;
-    while taken < run.len() {
-        let b = run[taken];
-        let marked = marked_at(run, mark, taken);
-        let step = queue::step_of(len, discarding, port, b, marked);
-        let ending = step.ending;
-        if is_nothing(ending) {} else {
-            return QuietBytes {
-                len,
-                discarding,
-                taken,
-                ended,
-            };
+    let mut q = before;
+    for b in &run[before.taken..] {
+        let marked = marked_at(run, mark, q.taken);
+        let step = queue::step_of(q.len, q.discarding, port, *b, marked);
+        if step.ending != LineEnd::Nothing {
+            return q;
         }
-        queue::store(bytes, len, b, step.stores);
-        len = step.len;
-        discarding = step.discarding;
-        ended = count_end(ended, port, b, marked);
-        taken += 1;
+        queue::store(bytes, q.len, *b, step.stores);
+        q = QuietBytes {
+            len: step.len,
+            discarding: step.discarding,
+            taken: q.taken + 1,
+            ended: count_end(q.ended, port, *b, marked),
+        };
     }
-    QuietBytes {
-        len,
-        discarding,
-        taken,
-        ended,
-    }
+    q
 }
 
 // The run once such bytes are taken.
@@ -191,12 +163,9 @@ fn stops(ended: usize, ending: LineEnd, s: State, text: &[u8], room: usize) -> b
     ensures { (one two : List ℕ) →
         result ≡ (ltb 0 ended && (is_line ending && (line_of room text.now s one two).report.dropped)) }
 {
-    if ended == 0 {
-        return false;
-    }
     match ending {
         LineEnd::Nothing => false,
-        LineEnd::Line => !line::fits(s, text, room),
+        LineEnd::Line => 0 < ended && !line::fits(s, text, room),
         LineEnd::TooLong => false,
     }
 }
@@ -205,23 +174,17 @@ fn stops(ended: usize, ending: LineEnd, s: State, text: &[u8], room: usize) -> b
 fn first_answer(answer: Answer, later: Answer) -> Answer
     ensures { result ≡ first_answer answer later }
 {
-    match answer {
-        Answer::Passed => later,
-        Answer::Refused(_, _) => answer,
-    }
+    answer.and(later)
 }
 
 // The line of the first refusal, once a further byte in the line `here` has its answer.
 fn first_line(answer: Answer, line: usize, later: Answer, here: usize) -> usize
     ensures { result ≡ first_line answer line later here }
 {
-    match answer {
-        Answer::Passed => match later {
-            Answer::Passed => line,
-            Answer::Refused(_, _) => here,
-        },
-        Answer::Refused(_, _) => line,
+    if answer.is_ok() & later.is_err() {
+        return here;
     }
+    line
 }
 
 // The run after one more byte, which left a state, a queue and a report.
@@ -265,7 +228,7 @@ fn end_behind(
     end_line(s, ending, text, one, two, &mut reply[written..])
 }
 
-// One more byte of a run, unless the run stops before it.
+// One more byte of a run; none where the run stops before it, and stays as it was.
 fn next_byte(
     p: RunProgress,
     b: u8,
@@ -273,12 +236,12 @@ fn next_byte(
     one: &mut [u32],
     two: &mut [u32],
     reply: &mut [u8],
-) -> RunStep
+) -> Option<RunProgress>
     requires { (p.report.length ≤ length reply.old) × (p.ended ≤ p.taken) × (p.taken < 9223372036854775808) }
     ensures next_byte { NextByte (length reply.old) b mark
         (run_at p one.old two.old reply.old)
-        result.stopped (run_at result.progress one.new two.new reply.new) }
-    ensures length_in_bounds { result.progress.report.length ≤ length reply.new }
+        (is_none result) (run_at (unwrap_or result p) one.new two.new reply.new) }
+    ensures length_in_bounds { (unwrap_or result p).report.length ≤ length reply.new }
 {
     let state = p.after.state;
     let port = p.after.state.installation.port;
@@ -296,10 +259,7 @@ fn next_byte(
         &bytes[0..end],
         reply.len() - written,
     ) {
-        return RunStep {
-            stopped: true,
-            progress: p,
-        };
+        return None;
     }
     let r = end_behind(state, ending, &bytes[0..end], one, two, reply, written);
     let after = r.state;
@@ -313,10 +273,7 @@ fn next_byte(
         queue,
         state: after,
     };
-    RunStep {
-        stopped: false,
-        progress: advance(p, m, report, count_end(p.ended, port, b, mark)),
-    }
+    Some(advance(p, m, report, count_end(p.ended, port, b, mark)))
 }
 
 // The bytes of a run, up to one before which it stops.
@@ -339,7 +296,7 @@ fn run_bytes(
         ended: 0,
         line: 0,
         report: Report {
-            answer: Answer::Passed,
+            answer: Ok(()),
             length: 0,
         },
     };
@@ -349,11 +306,10 @@ fn run_bytes(
         if at == run.len() {
             return p;
         }
-        let step = next_byte(p, run[at], marked_at(run, mark, at), one, two, reply);
-        p = step.progress;
-        if step.stopped {
+        let Some(next) = next_byte(p, run[at], marked_at(run, mark, at), one, two, reply) else {
             return p;
-        }
+        };
+        p = next;
     }
 }
 
@@ -383,7 +339,7 @@ fn refused_run(m: Module, refusal: Refusal) -> RunResult
             taken: 0,
             line: 0,
             report: Report {
-                answer: Answer::Refused(refusal, 0),
+                answer: Err(PlacedRefusal { refusal, place: 0 }),
                 length: 0,
             },
         },
@@ -420,19 +376,9 @@ pub fn take_run(
         (run_call (length reply.old) bytes.now mark m one.old two.old
         ).report }
 {
-    let state = m.state;
-    let waiting = m.queue.bytes;
-    let len = m.queue.len;
-    let outcome = module::guard(
-        state,
-        &waiting,
-        len,
-        m.queue.discarding,
-        one.len(),
-        two.len(),
-    );
+    let outcome = m.guard(one.len(), two.len());
     match outcome {
-        Outcome::Done => result_of(run_bytes(m, bytes, mark, one, two, reply)),
-        Outcome::Refused(refusal) => refused_run(m, refusal),
+        Ok(()) => result_of(run_bytes(m, bytes, mark, one, two, reply)),
+        Err(refusal) => refused_run(m, refusal),
     }
 }

@@ -2,11 +2,10 @@
 // byte between lines. Open this crate first.
 #![tactic(auto)]
 
-ghost use Rattle.std.specs.Prelude.{◌≡◌, [], ◌≤◌, length};
+ghost use Rattle.std.specs.Prelude.{◌≡◌, [], ◌≤◌, length, Err};
 ghost use Rattle.line_text.specs.Clean.{line_limit};
 ghost use Rattle.outcome.specs.Code.{number_of};
 ghost use Rattle.outcome.specs.Answer.{report_of, numbers_of};
-ghost use Rattle.outcome.specs.declared.Outcome.TheVariants.{Refused};
 ghost use Rattle.reply_buffer.specs.After.{Meets};
 ghost use Rattle.line.specs.Line.{line_of};
 ghost use Rattle.event.specs.Event.{event_effect, event_of};
@@ -22,7 +21,9 @@ pub use event::Event;
 use event::EventEffect;
 use line::Progress;
 pub use module::Module;
-pub use outcome::{Answer, Outcome, Refusal, Report, ReportNumbers, number_of, numbers_of};
+pub use outcome::{
+    Answer, Outcome, PlacedRefusal, Refusal, Report, ReportNumbers, number_of, numbers_of,
+};
 use queue::{LineEnd, Queue, QueueStep};
 use settings::Settings;
 use state::{Installation, State};
@@ -67,7 +68,7 @@ fn refused_start(refusal: Refusal) -> StartResult
     };
     StartResult {
         after: module::fresh(installation),
-        outcome: Outcome::Refused(refusal),
+        outcome: Err(refusal),
     }
 }
 
@@ -86,7 +87,7 @@ pub fn start(serial: u32, port: u32, one: &[u32], two: &[u32]) -> StartResult
             };
             return StartResult {
                 after: module::fresh(installation),
-                outcome: Outcome::Done,
+                outcome: Ok(()),
             };
         }
         return refused_start(Refusal::BadTraces);
@@ -105,11 +106,7 @@ struct StateResult {
 fn reported_length(p: Progress) -> usize
     ensures { result ≡ length_of p }
 {
-    let dropped = p.dropped;
-    if dropped {
-        return 0;
-    }
-    p.at
+    if p.dropped { 0 } else { p.at }
 }
 
 // A line that runs.
@@ -154,11 +151,14 @@ fn end_line(
         result one.new two.new reply.new reply.old }
 {
     match ending {
-        LineEnd::Nothing => tell(s, Answer::Passed),
+        LineEnd::Nothing => tell(s, Ok(())),
         LineEnd::Line => run(s, text, one, two, reply),
         LineEnd::TooLong => tell(
             state::with_error_bit(s, Refusal::LongLine),
-            Answer::Refused(Refusal::LongLine, 0),
+            Err(PlacedRefusal {
+                refusal: Refusal::LongLine,
+                place: 0,
+            }),
         ),
     }
 }
@@ -181,8 +181,8 @@ fn end_guarded(
         result one.new two.new reply.new reply.old }
 {
     match outcome {
-        Outcome::Done => end_line(s, ending, text, one, two, reply),
-        Outcome::Refused(refusal) => tell(s, Answer::Refused(refusal, 0)),
+        Ok(()) => end_line(s, ending, text, one, two, reply),
+        Err(refusal) => tell(s, Err(PlacedRefusal { refusal, place: 0 })),
     }
 }
 
@@ -191,9 +191,10 @@ fn whole_end(len: usize) -> LineEnd
     ensures { result ≡ whole_end len }
 {
     if len <= line_text::LINE {
-        return LineEnd::Line;
+        LineEnd::Line
+    } else {
+        LineEnd::TooLong
     }
-    LineEnd::TooLong
 }
 
 // A line handed over whole: no queue is used.
@@ -212,15 +213,7 @@ pub fn take_line(
 {
     let state = m.state;
     let queue = m.queue;
-    let bytes = m.queue.bytes;
-    let outcome = module::guard(
-        state,
-        &bytes,
-        queue.len,
-        queue.discarding,
-        one.len(),
-        two.len(),
-    );
+    let outcome = m.guard(one.len(), two.len());
     let ending = whole_end(text.len());
     let end = queue::end_index(text.len());
     let r = end_guarded(state, outcome, ending, &text[0..end], one, two, reply);
@@ -247,8 +240,8 @@ fn step_guarded(
     ensures { GuardedStep outcome len discarding port b mark result }
 {
     match outcome {
-        Outcome::Done => queue::step_of(len, discarding, port, b, mark),
-        Outcome::Refused(refusal) => QueueStep {
+        Ok(()) => queue::step_of(len, discarding, port, b, mark),
+        Err(_) => QueueStep {
             stores: false,
             line: len,
             len,
@@ -279,7 +272,7 @@ pub fn take_byte(
     let mut bytes = m.queue.bytes;
     let len = m.queue.len;
     let discarding = m.queue.discarding;
-    let outcome = module::guard(state, &bytes, len, discarding, one.len(), two.len());
+    let outcome = m.guard(one.len(), two.len());
     let step = step_guarded(outcome, len, discarding, port, b, mark);
     queue::store(&mut bytes, len, b, step.stores);
     let end = queue::end_index(step.line);
@@ -309,16 +302,13 @@ fn occur_guarded(
     two: &mut [u32],
 ) -> EventEffect
     ensures { Meets event_effect
-        (guarded Refused outcome (event_of e s one.old two.old)
+        (guarded Err outcome (event_of e s one.old two.old)
         s one.old two.old)
         result one.new two.new [] [] }
 {
     match outcome {
-        Outcome::Done => event::occur(s, e, one, two),
-        Outcome::Refused(refusal) => EventEffect {
-            state: s,
-            outcome: Outcome::Refused(refusal),
-        },
+        Ok(()) => event::occur(s, e, one, two),
+        Err(_) => EventEffect { state: s, outcome },
     }
 }
 
@@ -330,15 +320,7 @@ pub fn take_event(m: Module, e: Event, one: &mut [u32], two: &mut [u32]) -> Even
 {
     let state = m.state;
     let queue = m.queue;
-    let bytes = m.queue.bytes;
-    let guard = module::guard(
-        state,
-        &bytes,
-        queue.len,
-        queue.discarding,
-        one.len(),
-        two.len(),
-    );
+    let guard = m.guard(one.len(), two.len());
     let h = occur_guarded(state, guard, e, one, two);
     let after = h.state;
     let outcome = h.outcome;
@@ -356,16 +338,14 @@ pub fn poll(m: Module) -> PollResult
     ensures value { result ≡ poll_call m }
     ensures numbers { number_of result.outcome ≡ number_of (poll_call m).outcome }
 {
-    let state = m.state;
-    let bytes = m.queue.bytes;
-    if module::is_valid(state, &bytes, m.queue.len, m.queue.discarding) {
+    if m.is_valid() {
         return PollResult {
-            status: module::status_between(state),
-            outcome: Outcome::Done,
+            status: module::status_between(m.state),
+            outcome: Ok(()),
         };
     }
     PollResult {
         status: 0,
-        outcome: Outcome::Refused(Refusal::BadState),
+        outcome: Err(Refusal::BadState),
     }
 }

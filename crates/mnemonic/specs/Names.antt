@@ -1,12 +1,12 @@
 -- The command names (§3.2), each with what it stands for: every one and no other, in alphabetical order, "*" first.
-use Rattle.std.specs.Prelude.{ℕ, Bool, true, false, cond, ◌&&◌, List, [], ◌∷◌, eqb}
+use Rattle.std.specs.Prelude.{ℕ, Bool, true, false, cond, ◌&&◌, List, [], ◌∷◌, eqb, Option, Some, None}
 use Prim.Native.String.{String}
 use Rattle.split.specs.Ascii.{bytes}
 use Rattle.settings.specs.Table.{phas, fmod, freq, rslp, harm, slvl, isrc, ilin, ofsl, ignd, icpl, sync, sens, rmod}
 use Rattle.settings.specs.Table.{oflt, ddef1j, fpop1, oexp1x, auxv1, srat, send, tstr}
 use Rattle.mnemonic.specs.declared.Meaning.{Meaning}
 use Rattle.mnemonic.specs.declared.Meaning.TheVariants.{Setting, Channel, ChannelPair, Enable, Status, Identity}
-use Rattle.mnemonic.specs.declared.Meaning.TheVariants.{Points, Trace, Act, Unknown}
+use Rattle.mnemonic.specs.declared.Meaning.TheVariants.{Points, Trace, Act}
 use Rattle.mnemonic.specs.declared.Form.TheVariants.{Words, Floats}
 use Rattle.mnemonic.specs.declared.Register.TheVariants.{Standard, Service, Lia, Errors}
 use Rattle.mnemonic.specs.declared.Action.TheVariants.{Reset, Clear, Start, Pause, Empty, Trigger}
@@ -73,11 +73,11 @@ same_bytes [] (b ∷ t) = false
 same_bytes (a ∷ s) [] = false
 same_bytes (a ∷ s) (b ∷ t) = eqb a b && same_bytes s t
 
--- what a name stands for in a list of names
-unfoldable pub meaning_in : List Named → List ℕ → Meaning
-meaning_in [] s = Unknown
-meaning_in (n ∷ ns) s = cond (same_bytes n.name s) n.meaning (meaning_in ns s)
+-- what a name stands for in a list of names, if it is one of them
+unfoldable pub meaning_in : List Named → List ℕ → Option Meaning
+meaning_in [] s = None
+meaning_in (n ∷ ns) s = cond (same_bytes n.name s) (Some n.meaning) (meaning_in ns s)
 
--- §3.2: what a name stands for
-abbrev pub meaning_of : List ℕ → Meaning
+-- §3.2: what a name stands for; none is no command's name
+abbrev pub meaning_of : List ℕ → Option Meaning
 meaning_of s = meaning_in commands s

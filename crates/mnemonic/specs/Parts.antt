@@ -1,9 +1,8 @@
 -- What only inner functions are held to: a name's four bytes as one number, by which the list is searched. Words says
 -- that this is the search by bytes. No promise of a public call speaks of these.
-use Rattle.std.specs.Prelude.{ℕ, ◌+◌, ◌*◌, cond, List, [], ◌∷◌, eqb}
+use Rattle.std.specs.Prelude.{ℕ, ◌+◌, ◌*◌, cond, List, [], ◌∷◌, eqb, Option, Some, None}
 use Rattle.mnemonic.specs.Names.{Named, commands}
 use Rattle.mnemonic.specs.declared.Meaning.{Meaning}
-use Rattle.mnemonic.specs.declared.Meaning.TheVariants.{Unknown}
 
 -- the number v with bytes behind it
 abbrev pub word_after : ℕ → List ℕ → ℕ
@@ -14,11 +13,11 @@ word_after v (b ∷ bs) = word_after (v * 256 + b) bs
 abbrev pub word : List ℕ → ℕ
 word bs = word_after 0 bs
 
--- what a name stands for in a list of names, by its number
-unfoldable pub found_in : List Named → ℕ → Meaning
-found_in [] w = Unknown
-found_in (n ∷ ns) w = cond (eqb (word n.name) w) n.meaning (found_in ns w)
+-- what a name stands for in a list of names, by its number, if it is one of them
+unfoldable pub found_in : List Named → ℕ → Option Meaning
+found_in [] w = None
+found_in (n ∷ ns) w = cond (eqb (word n.name) w) (Some n.meaning) (found_in ns w)
 
--- what a name stands for, by its number
-abbrev pub found_of : ℕ → Meaning
+-- what a name stands for, by its number; none is no command's name
+abbrev pub found_of : ℕ → Option Meaning
 found_of w = found_in commands w

@@ -18,7 +18,7 @@ pub enum Register {
 }
 
 // What is done at once, with no argument.
-#[derive(Clone, Copy)]
+#[derive(Clone, Copy, PartialEq, Eq)]
 pub enum Action {
     // The settings and storage go back to their start.
     Reset,
@@ -64,8 +64,6 @@ pub enum Meaning {
     Trace(Form),
     // An action.
     Act(Action),
-    // No command's name.
-    Unknown,
 }
 
 // The entry of the first auxiliary output.
@@ -80,12 +78,13 @@ const FPOP: u8 = settings::FPOP_1 as u8;
 // The first entry of the first offset and expand.
 const OEXP: u8 = settings::OEXP_1X as u8;
 
-// What a name stands for, by its four bytes as one number, the first byte highest. A `match` is compiled to comparisons
-// and constants; a constant array of names would be written to the stack at each call.
-pub fn find(word: u32) -> Meaning
+// What a name stands for, by its four bytes as one number, the first byte highest; none is no command's name. A `match`
+// is compiled to comparisons and constants; a constant array of names would be written to the stack at each call.
+#[tactic(auto, unfolding(crate::specs::Parts::found_in))]
+pub fn find(word: u32) -> Option<Meaning>
     ensures { result ≡ found_of word }
 {
-    match word {
+    let meaning = match word {
         0x2A434C53 => Meaning::Act(Action::Clear), // *CLS
         0x2A455345 => Meaning::Enable(Register::Standard), // *ESE
         0x2A455352 => Meaning::Status(Register::Standard), // *ESR
@@ -138,6 +137,7 @@ pub fn find(word: u32) -> Meaning
         0x5452434C => Meaning::Trace(Form::Words), // TRCL
         0x54524947 => Meaning::Act(Action::Trigger), // TRIG
         0x54535452 => Meaning::Setting(settings::TSTR), // TSTR
-        _ => Meaning::Unknown,
-    }
+        _ => return None,
+    };
+    Some(meaning)
 }

@@ -1,8 +1,7 @@
 -- A module: whether a call may be done (§1.4), and the status byte between lines (§10.7).
-use Rattle.std.specs.Prelude.{ℕ, Bool, true, false, cond, ◌&&◌, eqb}
+use Rattle.std.specs.Prelude.{ℕ, Bool, true, false, cond, ◌&&◌, eqb, Err}
 use Rattle.outcome.specs.declared.Refusal.TheVariants.{BadTraces, BadState}
-use Rattle.outcome.specs.declared.Outcome.{Outcome}
-use Rattle.outcome.specs.declared.Outcome.TheVariants as outcome
+use Rattle.outcome.specs.Code.{Outcome, done}
 use Rattle.state.specs.Valid.{valid_state}
 use Rattle.state.specs.declared.State.{State}
 use Rattle.status.specs.Status.{status_byte}
@@ -18,9 +17,9 @@ valid_module m = valid_state m.state && queue.is_valid m.queue m.state.installat
 unfoldable pub guard_of : Module → ℕ → ℕ → Outcome
 guard_of m first second =
     cond (valid_module m)
-    (cond (eqb first m.state.installation.capacity && eqb second m.state.installation.capacity) outcome.Done
-    (outcome.Refused BadTraces))
-    (outcome.Refused BadState)
+    (cond (eqb first m.state.installation.capacity && eqb second m.state.installation.capacity) done
+    (Err BadTraces))
+    (Err BadState)
 
 -- §10.5 and §10.7: the status byte between lines: bit 1 is set, since no command runs, and bit 4 is clear
 unfoldable pub status_between : State → ℕ

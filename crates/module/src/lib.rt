@@ -1,13 +1,10 @@
 // A module: its state and its queue, fresh or at any time; its status byte; and refusals 9, 10 and 11.
 #![tactic(auto)]
 
-ghost use Rattle.std.specs.Prelude.{◌≡◌, length};
-ghost use Rattle.queue.specs.Queue.{line_limit};
-ghost use Rattle.queue.specs.Parts.{queue_of};
+ghost use Rattle.std.specs.Prelude.{◌≡◌};
 ghost use Rattle.module.specs.Start.{installation_known, traces_fit, fresh_module};
 ghost use Rattle.module.specs.Module.{valid_module, guard_of, status_between};
 
-use line_text::LINE;
 use outcome::{Outcome, Refusal};
 use queue::Queue;
 use settings::Settings;
@@ -23,11 +20,34 @@ pub struct Module {
     pub state: State,
 }
 
+impl Module {
+    // Whether 11 does not refuse the module, which is lent and not copied.
+    pub fn is_valid(&self) -> bool
+        ensures { result ≡ valid_module self.now }
+    {
+        state::is_valid(self.state) && self.queue.is_valid(self.state.installation.port)
+    }
+
+    // Refusals 11 and 9 for the module and traces of these lengths.
+    pub fn guard(&self, first: usize, second: usize) -> Outcome
+        ensures { result ≡ guard_of self.now first second }
+    {
+        let capacity = self.state.installation.capacity as usize;
+        if !self.is_valid() {
+            Err(Refusal::BadState)
+        } else if first == capacity && second == capacity {
+            Ok(())
+        } else {
+            Err(Refusal::BadTraces)
+        }
+    }
+}
+
 // Serial number and port as a start takes them, else refusal 10.
 pub fn installation_known(serial: u32, port: u32) -> bool
     ensures { result ≡ installation_known serial port }
 {
-    (serial <= state::SERIAL_MOST) & (port <= state::GPIB as u32)
+    serial <= state::SERIAL_MOST && port <= state::GPIB as u32
 }
 
 // The lengths of both traces as a start takes them, else refusal 9.
@@ -36,7 +56,7 @@ pub fn traces_fit(first: usize, second: usize) -> bool
 {
     let least = Settings::CAPACITY_LEAST as usize;
     let most = Settings::CAPACITY_MOST as usize;
-    (first == second) & ((least <= first) & (first <= most))
+    first == second && least <= first && first <= most
 }
 
 // A module at its start.
@@ -47,37 +67,6 @@ pub fn fresh(installation: Installation) -> Module
         state: State::start(installation),
         queue: Queue::empty(),
     }
-}
-
-// Whether a module may have this state and a queue of these bytes, else refusal 11. The bytes are lent, not copied.
-pub fn is_valid(s: State, bytes: &[u8; LINE], len: usize, discarding: bool) -> bool
-    requires { length bytes.now ≡ line_limit }
-    ensures { result ≡ valid_module (record { queue = queue_of bytes.now len discarding; state = s }) }
-{
-    state::is_valid(s) & queue::bytes_valid(bytes, len, discarding, s.installation.port)
-}
-
-// Refusals 11 and 9 for a state and a queue of these bytes, and traces of these lengths.
-pub fn guard(
-    s: State,
-    bytes: &[u8; LINE],
-    len: usize,
-    discarding: bool,
-    first: usize,
-    second: usize,
-) -> Outcome
-    requires { length bytes.now ≡ line_limit }
-    ensures { result ≡ guard_of
-        (record { queue = queue_of bytes.now len discarding; state = s }) first second }
-{
-    let capacity = s.installation.capacity as usize;
-    if is_valid(s, bytes, len, discarding) {
-        if (first == capacity) & (second == capacity) {
-            return Outcome::Done;
-        }
-        return Outcome::Refused(Refusal::BadTraces);
-    }
-    Outcome::Refused(Refusal::BadState)
 }
 
 // The status byte between lines.

@@ -3,18 +3,18 @@ use Prim.Native.Nat.{ℕ, zero, suc, ◌+◌, ◌-◌, ◌*◌, ◌/◌, ◌%◌
 use mathlib.Core.Path.{◌≡◌, sym, ◌∙◌}
 use mathlib.Core.Bool.{Bool, true, false, cond, and-false}
 use native.Mathlib.Omega.{arith}
-use native.Mathlib.Nat.{one-le-pow, mod-lt, add-zero, div-add-mod', mul-zero, mul_comm, mul_assoc, add-mul, one-mul, mul-le-mul_right, lt_of_mul-lt-mul_right, div-div-eq-div-mul, min-eq_left, min-eq_right}
+use native.Mathlib.Nat.{one-le-pow, mod-lt, div-add-mod', mul-zero, mul_comm, mul_assoc, add-mul, one-mul, mul-le-mul_right, lt_of_mul-lt-mul_right, div-div-eq-div-mul, min-eq_left, min-eq_right}
 use lib.Dec.{leb, ltb, eqb}
 use lib.Arith.{mod-mul}
 use borrow.Author.Tests.{lt-leb, le-leb, leb-true, leb-false, le-ltb, ltb-true, ltb-false, eqb-true, eqb-false}
+use Rattle.std.specs.Prelude.{Some}
 use Rattle.laws.proofs.Tests.{split, cond_by, and_second}
 use Rattle.number.specs.Value.{Exact, exact_of, in_range, rounded, is_whole, argument_of}
 use Rattle.number.specs.Parts.{cap, quantity_of, fits_range, rounded_to, placed_in, value_in, taken_of}
 use Rattle.number.specs.Exact.{Small, TakenExact, UnderSome}
-use Rattle.number.proofs.Rounding.{up_le, down_le}
+use Rattle.number.proofs.Rounding as Rounding
 use Rattle.number.specs.declared.Range.{Range}
 use Rattle.number.specs.declared.Quantity.{Quantity}
-use Rattle.number.specs.declared.Argument.TheVariants.{Value}
 
 one_at_most : (e : Bool) → cond e 1 0 ≤ 1
 one_at_most e = cond_by (λ n. n ≤ 1) e (λ _. omega arith) (λ _. omega arith)
@@ -119,9 +119,7 @@ module _ (v : Exact) (pos : 0 < v.under) where
   rounded_le : (step : ℕ) → rounded_to step (kept v) ≤ v.over / v.under + step
   unfolding rounded_to
   rounded_le step =
-      let n = v.over / v.under in
-      cond_by (λ k. (n / step + k) * step ≤ n + step) (leb step (2 * (n % step) + cond (kept v).half 1 0))
-      (λ e. up_le n step) (λ e. rw (add-zero (n / step)) (down_le n step))
+      Rounding.rounded_le (v.over / v.under) step (leb step (2 * (v.over / v.under % step) + cond (kept v).half 1 0))
 
   -- a value in a small range fits
   fits_small : (r : Range) → Small r → fits_range r (kept v) ≡ true → placed_in r (kept v) ≤ 4294967295
@@ -133,7 +131,7 @@ module _ (v : Exact) (pos : 0 < v.under) where
       let l = leb-true (r.bias + n + 1) (r.high + cond (is_whole v) 1 0) (and_second (leb r.low _) _ both) in
       omega (arith, one_at_most (is_whole v), rounded_le r.step))
 
-  value_small : (r : Range) → Small r → fits_range r (kept v) ≡ true → value_in r (kept v) ≡ Value (placed_in r (kept v))
+  value_small : (r : Range) → Small r → fits_range r (kept v) ≡ true → value_in r (kept v) ≡ Some (placed_in r (kept v))
   unfolding value_in
   value_small r small e = rw (le-ltb 4294967295 (placed_in r (kept v)) (fits_small r small e))
 

@@ -1,4 +1,5 @@
 -- Laws of number text, exact values and rounding.
+pub mod Flag
 pub mod Rounding
 pub mod Exact
 pub mod Places

@@ -1,11 +1,9 @@
 -- The exact value of a number (§4.2), and what an argument's range makes of it (§4.3, §4.4, §4.5).
 use Rattle.std.specs.Prelude.{ℕ, ◌+◌, ◌-◌, ◌*◌, ◌/◌, ◌%◌, ◌^◌, Bool, cond, not, ◌&&◌, ◌||◌, leb, eqb}
-use Rattle.std.specs.Prelude.{List, [], ◌∷◌, length}
+use Rattle.std.specs.Prelude.{List, [], ◌∷◌, length, Option, Some, None}
 use Rattle.split.specs.Divide.{before, after}
 use Rattle.number.specs.Number.{minus, point, letter_e, digit_zero, begins, unsigned, digits, has_exponent}
 use Rattle.number.specs.declared.Range.{Range}
-use Rattle.number.specs.declared.Argument.{Argument}
-use Rattle.number.specs.declared.Argument.TheVariants.{Value, Refused}
 
 -- the number that has the digits ds after those of v
 unfoldable pub decimal_after : ℕ → List ℕ → ℕ
@@ -65,9 +63,9 @@ abbrev pub rounded : ℕ → Exact → ℕ
 rounded step v = nearest v.over (v.under * step) * step
 
 -- §4.3, §4.4 and §4.5: what a range makes of an argument: tested before it is rounded, its value with the bias added,
--- or refusal 2 (§12.2)
-unfoldable pub argument_of : Range → Exact → Argument
+-- or None, which is refusal 2 (§12.2)
+unfoldable pub argument_of : Range → Exact → Option ℕ
 argument_of r v =
     cond (in_range r v && (not r.whole || is_whole v))
-    (Value (cond v.negative (r.bias - rounded r.step v) (r.bias + rounded r.step v)))
-    Refused
+    (Some (cond v.negative (r.bias - rounded r.step v) (r.bias + rounded r.step v)))
+    None

@@ -1,64 +1,39 @@
 // Number text as a quantity, read exactly: digit by digit, without numbers of more than 64 bits.
-ghost use Rattle.std.specs.Prelude.{◌≡◌, true, ◌++◌, ◌+◌, ◌*◌, ◌≤◌, min, length, get_or, drop};
-ghost use Rattle.number.specs.Number.{digit_zero, all_digits, digit_limit};
+ghost use Rattle.std.specs.Prelude.{◌≡◌, true, ◌++◌, ◌+◌, ◌*◌, ◌≤◌, min, length, get_or, drop, IfSome};
+ghost use Rattle.number.specs.Number.{minus, digit_zero, begins, unsigned, all_digits, digit_limit};
 ghost use Rattle.number.specs.Parts.{cap, quantity_of, read_of};
 ghost use Rattle.number.specs.TextParts.{digits_value, all_zero, moved, digits_of, mantissa_of, unsigned_of, up_most};
-ghost use Rattle.number.specs.TextParts.{short_of, exponent_of, raised_by, lowered_by, TwoDigits, Bounded};
+ghost use Rattle.number.specs.TextParts.{short_of, exponent_of, short_most};
 
-use super::{CAP, Quantity, Reading};
+use super::{CAP, Quantity};
 
 // The most digits that a number has, point and exponent aside.
 const DIGIT_LIMIT: usize = 15;
 
-// What the digits of an exponent are read as.
+// A power of ten, as the digits by which the point moves.
 #[derive(Clone, Copy)]
-enum Short {
-    // One or two digits: their number.
-    Of(usize),
-    // No digit, more than two, or another byte.
-    Long,
-}
-
-// What the text after "E" is read as.
-#[derive(Clone, Copy)]
-enum Exponent {
-    // A power of ten: the digits by which the point moves to the right, and to the left.
-    Power(usize, usize),
-    // No exponent.
-    Wrong,
+struct Power {
+    // The digits to the right.
+    up: usize,
+    // The digits to the left.
+    down: usize,
 }
 
 // Whether all bytes are digits.
 fn all_digits(s: &[u8]) -> bool
     ensures { result ≡ all_digits s.now }
 {
-    let mut i = 0;
-    while i < s.len() {
-        let b = s[i];
-        if b < b'0' {
-            return false;
-        }
-        if b'9' < b {
-            return false;
-        }
-        i += 1;
-    }
-    true
+    s.iter().all(|b| b.is_ascii_digit())
 }
 
 // The digit at an index among the digits before and after the point: "0" past the last.
 fn digit_at(front: &[u8], back: &[u8], index: usize) -> u8
     ensures { result ≡ get_or (front.now ++ back.now) index digit_zero }
 {
-    let n = front.len();
-    if index < n {
+    if index < front.len() {
         return front[index];
     }
-    let k = index - n;
-    if k < back.len() {
-        return back[k];
-    }
-    b'0'
+    back.get(index - front.len()).copied().unwrap_or(b'0')
 }
 
 // The number with one digit more at its end, at most CAP.
@@ -66,11 +41,7 @@ fn grown(value: u64, digit: u8) -> u64
     requires { (value ≤ cap) × (digit ≤ 9) }
     ensures { result ≡ min cap (value * 10 + digit) }
 {
-    let next = value * 10 + digit as u64;
-    if next < CAP {
-        return next;
-    }
-    CAP
+    CAP.min(value * 10 + u64::from(digit))
 }
 
 // The number that the first `kept` digits write, at most CAP.
@@ -78,32 +49,22 @@ fn whole_part(front: &[u8], back: &[u8], kept: usize) -> u64
     requires { all_digits (front.now ++ back.now) ≡ true }
     ensures { result ≡ min cap (digits_value (front.now ++ back.now) 0 kept) }
 {
-    let mut value: u64 = 0;
-    let mut index = 0;
-    while index < kept {
-        let b = digit_at(front, back, index);
-        value = grown(value, b - b'0');
-        index += 1;
+    let mut value = 0;
+    for index in 0..kept {
+        value = grown(value, digit_at(front, back, index) - b'0');
     }
     value
 }
 
 // Whether every digit from the index `from` on is "0".
 fn zero_from(front: &[u8], back: &[u8], from: usize) -> bool
-    requires { length front.now + length back.now ≤ digit_limit }
     ensures { result ≡ all_zero (drop from (front.now ++ back.now)) }
 {
-    let n = front.len() + back.len();
-    let mut index = from;
-    while index < n {
-        let b = digit_at(front, back, index);
-        if b == b'0' {
-            index += 1;
-        } else {
-            return false;
-        }
-    }
-    true
+    front
+        .iter()
+        .chain(back.iter())
+        .skip(from)
+        .all(|b| *b == b'0')
 }
 
 // The number with these digits before and after the point, once the point has moved `up` digits to the right and `down`
@@ -115,51 +76,42 @@ fn scaled(front: &[u8], back: &[u8], negative: bool, up: usize, down: usize) -> 
 {
     let point = front.len() + up;
     if point < down {
-        let none = zero_from(front, back, 0);
         return Quantity {
             negative,
             whole: 0,
             half: false,
-            exact: none,
+            exact: zero_from(front, back, 0),
         };
     }
     let kept = point - down;
-    let next = digit_at(front, back, kept);
-    let whole = whole_part(front, back, kept);
-    let none = zero_from(front, back, kept);
     Quantity {
         negative,
-        whole,
-        half: b'5' <= next,
-        exact: none,
+        whole: whole_part(front, back, kept),
+        half: b'5' <= digit_at(front, back, kept),
+        exact: zero_from(front, back, kept),
     }
 }
 
 // The same of any bytes: no number unless they are digits, at least one and at most DIGIT_LIMIT.
-fn read_digits(front: &[u8], back: &[u8], negative: bool, up: usize, down: usize) -> Reading
+fn read_digits(
+    front: &[u8],
+    back: &[u8],
+    negative: bool,
+    up: usize,
+    down: usize,
+) -> Option<Quantity>
     requires { up ≤ up_most }
     ensures { result ≡ digits_of negative front.now back.now up down }
 {
     let n = front.len() + back.len();
-    if n < 1 {
-        return Reading::NotNumber;
+    if n < 1 || DIGIT_LIMIT < n || !all_digits(front) || !all_digits(back) {
+        return None;
     }
-    if DIGIT_LIMIT < n {
-        return Reading::NotNumber;
-    }
-    let first = all_digits(front);
-    if first {
-        let second = all_digits(back);
-        if second {
-            return Reading::Number(scaled(front, back, negative, up, down));
-        }
-        return Reading::NotNumber;
-    }
-    Reading::NotNumber
+    Some(scaled(front, back, negative, up, down))
 }
 
 // The text before "E", divided at its point.
-fn read_mantissa(m: &[u8], negative: bool, up: usize, down: usize) -> Reading
+fn read_mantissa(m: &[u8], negative: bool, up: usize, down: usize) -> Option<Quantity>
     requires { up ≤ up_most }
     ensures { result ≡ mantissa_of negative m.now up down }
 {
@@ -168,97 +120,64 @@ fn read_mantissa(m: &[u8], negative: bool, up: usize, down: usize) -> Reading
         let start = p + 1;
         return read_digits(&m[..p], &m[start..], negative, up, down);
     }
-    read_digits(m, &m[p..], negative, up, down)
+    read_digits(m, &[], negative, up, down)
 }
 
-// One or two digits as a number.
-fn short_number(t: &[u8]) -> Short
-    ensures { (result ≡ short_of t.now) × TwoDigits result }
+// One or two digits as a number; None is another count or another byte.
+fn short_number(t: &[u8]) -> Option<usize>
+    ensures { (result ≡ short_of t.now) × IfSome result (λ n. n ≤ short_most) }
 {
-    let n = t.len();
-    if n < 1 {
-        return Short::Long;
+    if !all_digits(t) {
+        return None;
     }
-    if 2 < n {
-        return Short::Long;
-    }
-    let all = all_digits(t);
-    if all {
-        let first = (t[0] - b'0') as usize;
-        if n == 1 {
-            return Short::Of(first);
-        }
-        return Short::Of(first * 10 + (t[1] - b'0') as usize);
-    }
-    Short::Long
-}
-
-// An exponent with no minus: the point moves to the right.
-fn raised(s: Short) -> Exponent
-    ensures { result ≡ raised_by s }
-{
-    match s {
-        Short::Of(n) => Exponent::Power(n, 0),
-        Short::Long => Exponent::Wrong,
+    match t {
+        [a] => Some(usize::from(*a - b'0')),
+        [a, b] => Some(usize::from((*a - b'0') * 10 + (*b - b'0'))),
+        _ => None,
     }
 }
 
-// An exponent with a minus: the point moves to the left.
-fn lowered(s: Short) -> Exponent
-    ensures { result ≡ lowered_by s }
+// Whether a text has a minus at its front, and the text without the sign at its front, if it has one.
+fn split_sign(text: &[u8]) -> (bool, &[u8])
+    ensures { (result.0 ≡ begins minus text.now) × (result.1.now ≡ unsigned text.now) }
 {
-    match s {
-        Short::Of(n) => Exponent::Power(0, n),
-        Short::Long => Exponent::Wrong,
+    match text {
+        [b'-', rest @ ..] => (true, rest),
+        [b'+', rest @ ..] => (false, rest),
+        _ => (false, text),
     }
 }
 
-// The text after "E": a sign or none, then one digit or two.
-fn read_exponent(x: &[u8]) -> Exponent
-    ensures { (result ≡ exponent_of x.now) × Bounded result }
+// The text after "E" as a power: a sign or none, then one digit or two. None is no power.
+fn read_exponent(x: &[u8]) -> Option<Power>
+    ensures { (result ≡ exponent_of x.now) × IfSome result (λ p. p.up ≤ short_most) }
 {
-    if x.len() < 1 {
-        return Exponent::Wrong;
+    let (negative, digits) = split_sign(x);
+    let n = short_number(digits)?;
+    if negative {
+        return Some(Power { up: 0, down: n });
     }
-    let b = x[0];
-    if b == b'-' {
-        return lowered(short_number(&x[1..]));
-    }
-    if b == b'+' {
-        return raised(short_number(&x[1..]));
-    }
-    raised(short_number(x))
+    Some(Power { up: n, down: 0 })
 }
 
 // A number's text after its sign, in units of 10^-decimals.
-fn read_unsigned(u: &[u8], negative: bool, decimals: usize) -> Reading
+fn read_unsigned(u: &[u8], negative: bool, decimals: usize) -> Option<Quantity>
     requires { decimals ≤ 255 }
     ensures { result ≡ unsigned_of negative u.now decimals }
 {
     let e = split::span_of(u, b'E');
     if e < u.len() {
         let start = e + 1;
-        let Exponent::Power(up, down) = read_exponent(&u[start..]) else {
-            return Reading::NotNumber;
-        };
-        return read_mantissa(&u[..e], negative, decimals + up, down);
+        let power = read_exponent(&u[start..])?;
+        return read_mantissa(&u[..e], negative, decimals + power.up, power.down);
     }
     read_mantissa(u, negative, decimals, 0)
 }
 
-// A text as a number, in units of 10^-decimals.
-pub fn read(text: &[u8], decimals: u8) -> Reading
+// A text as a number, in units of 10^-decimals. None is no number.
+pub fn read(text: &[u8], decimals: u8) -> Option<Quantity>
     ensures { result ≡ read_of decimals text.now }
 {
-    if text.len() < 1 {
-        return Reading::NotNumber;
-    }
-    let b = text[0];
-    if b == b'-' {
-        return read_unsigned(&text[1..], true, decimals as usize);
-    }
-    if b == b'+' {
-        return read_unsigned(&text[1..], false, decimals as usize);
-    }
-    read_unsigned(text, false, decimals as usize)
+    let (negative, u) = split_sign(text);
+    read_unsigned(u, negative, usize::from(decimals))
 }

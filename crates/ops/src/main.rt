@@ -2,24 +2,26 @@
 // by docs/ops-protocol.md.
 #![tactic(auto)]
 
+use ops_protocol::{BYTES_MOST, LINE_MOST};
+use ops_session::Session;
+use terminal::{Line, Lines, Output};
+
 // Runs the operations of all lines. A proved loop has to end, so this one counts its turns, up to a number that no run
 // reaches.
 fn main(rt: HostRuntime) {
     let mut stdin = rt.stdin();
     let mut chunk = io::large_buffer();
-    let mut line = ops_protocol::line_buffer();
-    let mut bytes = io::large_buffer();
-    let mut one = ops_protocol::trace_buffer();
-    let mut two = ops_protocol::trace_buffer();
-    let mut session = ops_session::first_session();
-    let mut next = terminal::before_first_line();
+    let mut lines = Lines::new(&mut stdin, &mut chunk);
+    let mut line = [0; LINE_MOST];
+    let mut buffer = io::buffer();
+    let mut out = Output::new(&rt, &mut buffer);
+    let mut bytes = [0; BYTES_MOST];
+    let mut session = Session::new();
     for _ in 0..u64::MAX {
-        next = terminal::next_line(&mut stdin, next, &mut chunk, &mut line);
-        session = ops_session::run_line(
-            &rt, session, &line, next.len, &mut bytes, &mut one, &mut two,
-        );
-        if !next.ending {
-            return;
+        match lines.next_line(&mut line) {
+            None => return,
+            Some(Line::TooLong) => ops_session::write_invalid(&mut out),
+            Some(Line::Bytes(text)) => session.run_line(&mut out, text, &mut bytes),
         }
     }
 }

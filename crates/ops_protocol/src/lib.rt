@@ -1,13 +1,14 @@
-// The text of docs/ops-protocol.md: the operations and what their arguments say, the fields of a state and how they are
-// written, and buffers for the longest of all these.
+// The text of docs/ops-protocol.md: the operations and what their arguments say, the fields of a state, and the largest
+// sizes of all these.
 #![tactic(auto)]
 
 mod alter;
-mod buffers;
-pub mod fields;
+mod arguments;
+mod fields;
 mod operation;
+mod sizes;
 
-pub use buffers::{
-    REPLY_MOST, SMALL_REPLY, line_buffer, reply_buffer, small_reply_buffer, trace_buffer,
-};
-pub use operation::{Operation, decode_operation};
+pub use alter::Alteration;
+pub use fields::{FIELDS, Field, phase_word, range_word};
+pub use operation::{Operation, Trace, decode_operation};
+pub use sizes::{BYTES_MOST, LINE_MOST, REPLY_MOST, TRACE_MOST};

@@ -1,12 +1,10 @@
--- The number of each refusal (`code_of` lists the clauses), and the standard event bits (§10.1) that it sets.
-use Rattle.std.specs.Prelude.{ℕ, ◌^◌}
+-- The number of each refusal (`code_of` lists the clauses), the standard event bits (§10.1) that it sets, and outcomes.
+use Rattle.std.specs.Prelude.{ℕ, ◌^◌, Result, Ok, Err}
 use Rattle.outcome.specs.declared.Refusal.{Refusal}
 use Rattle.outcome.specs.declared.Refusal.TheVariants.{Malformed, OutOfRange, NotAllowed, NoRoom, LongLine}
 use Rattle.outcome.specs.declared.Refusal.TheVariants.{BadEvent, NoReset, LongScriptLine, BadTraces}
 use Rattle.outcome.specs.declared.Refusal.TheVariants.{BadStart, BadState}
 use Rattle.outcome.specs.declared.Code.{Code}
-use Rattle.outcome.specs.declared.Outcome.{Outcome}
-use Rattle.outcome.specs.declared.Outcome.TheVariants.{Done, Refused}
 
 -- §10.1 and §12.5: INP, standard event bit 0: a line was too long
 abbrev pub inp : ℕ
@@ -47,8 +45,16 @@ code_of BadTraces = numbered 9 none
 code_of BadStart = numbered 10 none
 code_of BadState = numbered 11 none
 
+-- §1.5: how a command, an event or a start ends: nothing is refused, or refused, and why
+abbrev pub Outcome : Type 0
+Outcome = Result Unit Refusal
+
+-- nothing is refused
+abbrev pub done : Outcome
+done = Ok tt
+
 -- §1.5: an outcome as a number: 0 where nothing is refused, else the refusal's number. The promises of the start, of
 -- events and of the serial poll use it
 unfoldable pub number_of : Outcome → ℕ
-number_of Done = 0
-number_of (Refused refusal) = (code_of refusal).number
+number_of (Ok _) = 0
+number_of (Err refusal) = (code_of refusal).number

@@ -7,7 +7,7 @@ ghost use Rattle.outcome.specs.Code.{code_of, number_of};
 ghost use Rattle.outcome.specs.Answer.{first_of, drops, numbers_of};
 
 // Why a command, a line, an event, a script or a state is not taken.
-#[derive(Clone, Copy)]
+#[derive(Clone, Copy, PartialEq, Eq)]
 pub enum Refusal {
     // 1: no such name, the name in another form, another count of arguments, or an argument that is no number.
     Malformed,
@@ -33,23 +33,20 @@ pub enum Refusal {
     BadState,
 }
 
-// How a command, an event or a start ends: done, or refused.
+// How a command, an event or a start ends: nothing is refused, or refused, and why.
+pub type Outcome = Result<(), Refusal>;
+
+// Why a command of a line is refused, and where.
 #[derive(Clone, Copy)]
-pub enum Outcome {
-    // Nothing is refused.
-    Done,
-    // Refused, and why.
-    Refused(Refusal),
+pub struct PlacedRefusal {
+    // The refusal.
+    pub refusal: Refusal,
+    // The command's place in the line, from 1; 0 where the line or the state as a whole is refused.
+    pub place: u32,
 }
 
-// A line's answer: nothing refused, or the first refusal and the place of its command, from 1.
-#[derive(Clone, Copy)]
-pub enum Answer {
-    // No command is refused.
-    Passed,
-    // Why a command is refused, and its place.
-    Refused(Refusal, u32),
-}
+// A line's answer: nothing is refused, or the first refusal and its place.
+pub type Answer = Result<(), PlacedRefusal>;
 
 // What a call with a line or a byte reports.
 #[derive(Clone, Copy)]
@@ -92,9 +89,6 @@ const EXE: u8 = 1 << 4;
 // Standard event bit 5: a text is no command.
 const CMD: u8 = 1 << 5;
 
-// The number of the refusal for a reply that exceeds the room left.
-const NO_ROOM: u8 = 4;
-
 // The table of refusals, row by row: the number and the standard event bits of each.
 pub fn code_of(refusal: Refusal) -> Code
     ensures { result ≡ code_of refusal }
@@ -113,7 +107,7 @@ pub fn code_of(refusal: Refusal) -> Code
             bits: EXE,
         },
         Refusal::NoRoom => Code {
-            number: NO_ROOM,
+            number: 4,
             bits: QRY,
         },
         Refusal::LongLine => Code {
@@ -136,12 +130,13 @@ pub fn code_of(refusal: Refusal) -> Code
 }
 
 // The number of an outcome: its refusal's, 0 where nothing is refused.
+// A function, and no impl of From: its name is one of lockin's public names.
 pub fn number_of(outcome: Outcome) -> u8
     ensures { result ≡ number_of outcome }
 {
     match outcome {
-        Outcome::Done => 0,
-        Outcome::Refused(refusal) => code_of(refusal).number,
+        Ok(()) => 0,
+        Err(refusal) => code_of(refusal).number,
     }
 }
 
@@ -149,40 +144,33 @@ pub fn number_of(outcome: Outcome) -> u8
 pub fn first_of(answer: Answer, outcome: Outcome, place: u32) -> Answer
     ensures { result ≡ first_of answer outcome place }
 {
-    match answer {
-        Answer::Refused(_, _) => answer,
-        Answer::Passed => match outcome {
-            Outcome::Done => Answer::Passed,
-            Outcome::Refused(refusal) => Answer::Refused(refusal, place),
-        },
-    }
+    answer?;
+    outcome.map_err(|refusal| PlacedRefusal { refusal, place })
 }
 
 // Whether an outcome drops the rest of the line.
 pub fn drops(outcome: Outcome) -> bool
     ensures { result ≡ drops outcome }
 {
-    match outcome {
-        Outcome::Done => false,
-        Outcome::Refused(refusal) => code_of(refusal).number == NO_ROOM,
-    }
+    outcome == Err(Refusal::NoRoom)
 }
 
 // A report in numbers.
+// A function, and no impl of From: its name is one of lockin's public names.
 pub fn numbers_of(report: Report) -> ReportNumbers
     ensures { result ≡ numbers_of report }
 {
-    let answer = report.answer;
-    match answer {
-        Answer::Passed => ReportNumbers {
+    let length = report.length;
+    match report.answer {
+        Ok(()) => ReportNumbers {
             refusal: 0,
             place: 0,
-            length: report.length,
+            length,
         },
-        Answer::Refused(refusal, place) => ReportNumbers {
+        Err(PlacedRefusal { refusal, place }) => ReportNumbers {
             refusal: code_of(refusal).number,
             place,
-            length: report.length,
+            length,
         },
     }
 }

@@ -43,10 +43,8 @@ fn negative(word: u32) -> bool
 fn magnitude(word: u32) -> u32
     ensures { result ≡ magnitude_of word }
 {
-    if negative(word) {
-        return 0x1_0000 - word % 0x1_0000;
-    }
-    word % 0x1_0000
+    let low = word % 0x1_0000;
+    if negative(word) { 0x1_0000 - low } else { low }
 }
 
 // The single of value a * 2^(e - 124): the leading zeros of a give its exponent and the shift of its fraction.
@@ -65,27 +63,20 @@ fn single(a: u32, e: u32) -> u32
 pub fn float_bits(word: u32) -> u32
     ensures { result ≡ float_of word }
 {
-    if legal(word) {
-        let a = magnitude(word);
-        if a == 0 {
-            return 0;
-        }
-        let bits = single(a, exponent(word));
-        if negative(word) {
-            return SIGN + bits;
-        }
-        return bits;
+    if !legal(word) {
+        return NO_POINT;
     }
-    NO_POINT
+    let a = magnitude(word);
+    if a == 0 {
+        return 0;
+    }
+    let bits = single(a, exponent(word));
+    if negative(word) { SIGN + bits } else { bits }
 }
 
 // The four bytes of x, low byte first.
 pub fn word_bytes(x: u32) -> [u8; 4]
     ensures { result ≡ little_endian x }
 {
-    let low = (x % 0x100) as u8;
-    let second = (x / 0x100 % 0x100) as u8;
-    let third = (x / 0x1_0000 % 0x100) as u8;
-    let top = (x / 0x100_0000) as u8;
-    [low, second, third, top]
+    x.to_le_bytes()
 }

@@ -9,6 +9,7 @@ use lib.Dec.{eqb}
 use lib.ListN.{length, set}
 use lib.Seq.{get_or-set_other}
 use borrow.Author.Tests.{eqb-true, eqb-false, eq-eqb, le-leb}
+use Rattle.std.specs.Prelude.{Some, None, Ok, Err}
 use Rattle.outcome.specs.declared.Refusal.{Refusal}
 use Rattle.settings.specs.Table.{oflt, send, next_entry, value_of, with_value}
 use Rattle.settings.specs.Frequency.{is_internal}
@@ -18,14 +19,12 @@ use Rattle.storage.proofs.Valid.{facts}
 use Rattle.storage.proofs.Preserved.{Same, keeps_next, started-same, paused_same, readied_same, readied_keeps, room}
 use Rattle.mnemonic.specs.declared.Action.{Action}
 use Rattle.mnemonic.specs.declared.Action.TheVariants as action
-use Rattle.command.specs.Parsed.{parsed_of}
+use Rattle.command.specs.Parsed.{Parsed, parsed_of}
 use Rattle.command.specs.declared.SetArgument.{SetArgument}
 use Rattle.command.specs.declared.SetArgument.TheVariants as set
 use Rattle.command.specs.declared.QueryArgument.{QueryArgument}
 use Rattle.command.specs.declared.Kind.{Kind}
 use Rattle.command.specs.declared.Kind.TheVariants.{Set, Query, Act}
-use Rattle.command.specs.declared.Parsed.{Parsed}
-use Rattle.command.specs.declared.Parsed.TheVariants as parsed
 use Rattle.status.specs.Status.{with_lia, with_raised, may_raise}
 use Rattle.state.specs.State.{pair_of, sampling_of, with_registers, with_latest, range_settled, settled}
 use Rattle.state.specs.State.{with_error_bit}
@@ -318,9 +317,9 @@ module _ (history : History) (s : State) (one two : List ℕ) (h : Holds history
       let e = command_of room waiting p s one two in
       Holds (after_text p s history) e.after e.one e.two
   unfolding command_of after_text
-  text-holds parsed.Empty k room waiting = h
-  text-holds (parsed.Refused r) k room waiting = marked-holds r
-  text-holds (parsed.Taken c) k room waiting = kind_holds c.kind k room waiting
+  text-holds (Ok None) k room waiting = h
+  text-holds (Err r) k room waiting = marked-holds r
+  text-holds (Ok (Some c)) k room waiting = kind_holds c.kind k room waiting
 
 -- ---- lines
 

@@ -7,11 +7,11 @@ use mathlib.Core.Path.{◌≡◌, refl, ◌∙◌}
 use lib.Dec.{leb}
 use lib.ListN.{length}
 use borrow.Author.Tests.{eqb-true, le-leb, lt-leb}
+use Rattle.std.specs.Prelude.{Ok, Err}
 use Rattle.split.specs.Ascii.{bytes}
 use Rattle.outcome.specs.declared.Refusal.{Refusal}
 use Rattle.outcome.specs.declared.Refusal.TheVariants.{LongLine}
-use Rattle.outcome.specs.declared.Outcome.{Outcome}
-use Rattle.outcome.specs.declared.Outcome.TheVariants.{Done, Refused}
+use Rattle.outcome.specs.Code.{Outcome, done}
 use Rattle.command.specs.declared.QueryArgument.TheVariants as query
 use Rattle.state.specs.State.{start_state, with_error_bit}
 use Rattle.state.specs.Valid.{valid_state}
@@ -58,7 +58,7 @@ start-holds serial port first second one two =
 
 -- ---- calls
 
-fits-passed : (m : Module) (one two : List ℕ) → guard_of m (length one) (length two) ≡ Done → Fits m.state one two
+fits-passed : (m : Module) (one two : List ℕ) → guard_of m (length one) (length two) ≡ done → Fits m.state one two
 unfolding valid_module
 fits-passed m one two e =
     let p = passes m (length one) (length two) e in
@@ -77,8 +77,8 @@ module _ (history : History) (m : Module) (one two : List ℕ) (h : Holds histor
       let g = guarded report o c m one two in
       Holds (unless_refused o now history) g.after.state g.one g.two
   unfolding guarded unless_refused
-  guarded-holds report Done e c now k = k (fits-passed m one two e)
-  guarded-holds report (Refused r) e c now k = h
+  guarded-holds report (Ok _) e c now k = k (fits-passed m one two e)
+  guarded-holds report (Err r) e c now k = h
 
   long-holds : Fits m.state one two → Holds history (with_error_bit LongLine m.state) one two
   long-holds f = marked-holds history m.state one two h f LongLine
@@ -126,7 +126,7 @@ module _ (history : History) (m : Module) (one two : List ℕ) (h : Holds histor
       Holds (after_event_call e m one two history) c.after.state c.one c.two
   unfolding event_call after_event_call
   event-kept e =
-      guarded-holds Refused (guard_of m (length one) (length two)) refl
+      guarded-holds Err (guard_of m (length one) (length two)) refl
       (with_queue m.queue (event_of e m.state one two))
       (history_after_event e m.state history) (λ f. event-holds history m.state one two h f e)
 
@@ -144,7 +144,7 @@ made_holds _ _ _ _ (by_event e history m one two k) =
 
 -- a run that 11 or 9 refuses
 run-refused : (room : ℕ) (bytes : List ℕ) (mark : Bool) (m : Module) (one two : List ℕ) (r : Refusal) →
-    guard_of m (length one) (length two) ≡ Refused r →
+    guard_of m (length one) (length two) ≡ Err r →
     run_call room bytes mark m one two ≡ silent (refused_run r) m one two
 unfolding run_call guarded
 run-refused room bytes mark m one two r g = rw g
@@ -174,11 +174,11 @@ run-stored room bytes mark history m one two long k = by (guard_of m (length one
 
   by : (o : Outcome) → guard_of m (length one) (length two) ≡ o →
       let c = run_call room bytes mark m one two in StoredSome c.after c.one c.two
-  by Done g =
+  by (Ok _) g =
       let same = runs_are_bytes.same room bytes mark m one two long g in
       rw (same.after, same.first, same.second)
       (taken-stored room mark bytes (unfed m one two) _ same.fed same.taken here)
-  by (Refused r) g = rw (run-refused room bytes mark m one two r g) here
+  by (Err r) g = rw (run-refused room bytes mark m one two r g) here
 
 pub points_kept : PointsKept
 points_kept =

@@ -8,6 +8,7 @@ use mathlib.Core.Path.{◌≡◌, refl, sym, ap, ◌∙◌}
 use lib.Dec.{leb, eqb}
 use lib.ListN.{length, take, drop, length-drop}
 use lib.Seq.{drop-cons, get_or-drop}
+use Rattle.std.specs.Prelude.{Some}
 use Rattle.split.specs.Ascii.{bytes}
 use Rattle.split.specs.Divide.{parts, on_head}
 use Rattle.line_text.specs.Clean.{cleaned}
@@ -90,7 +91,7 @@ trace-name : (form : Form) → Name (trace_name form)
 trace-name Words = record { four = refl; bytes = refl }
 trace-name Floats = record { four = refl; bytes = refl }
 
-trace_means : (form : Form) → meaning_of (trace_name form) ≡ meaning.Trace form
+trace_means : (form : Form) → meaning_of (trace_name form) ≡ Some (meaning.Trace form)
 unfolding meaning_in
 trace_means Words = refl
 trace_means Floats = refl

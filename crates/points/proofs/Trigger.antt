@@ -6,14 +6,14 @@ use mathlib.Core.List.{List, []}
 use mathlib.Core.Path.{◌≡◌, refl, ◌∙◌}
 use lib.ListN.{length}
 use borrow.Author.Tests.{le-leb}
+use Rattle.std.specs.Prelude.{Ok, Err}
 use Rattle.split.specs.Ascii.{bytes}
 use Rattle.split.specs.Divide.{parts, on_head}
 use Rattle.line_text.specs.Clean.{cleaned}
 use Rattle.number.specs.Number.{begins}
 use Rattle.outcome.specs.Answer.{first_of, drops}
 use Rattle.outcome.specs.declared.Refusal.{Refusal}
-use Rattle.outcome.specs.declared.Outcome.{Outcome}
-use Rattle.outcome.specs.declared.Outcome.TheVariants.{Done, Refused}
+use Rattle.outcome.specs.Code.{Outcome, done}
 use Rattle.mnemonic.specs.Names.{meaning_in}
 use Rattle.mnemonic.specs.declared.Action.TheVariants.{Trigger}
 use Rattle.command.specs.Arguments.{arguments}
@@ -55,7 +55,7 @@ unfolding command_of
 trig_command room waiting s one two = rw says_trig.read (trig_performed room waiting s one two)
 
 -- the line's call where neither 11 nor 9 refuses it
-trig_call : (room : ℕ) (m : Module) (one two : List ℕ) → guard_of m (length one) (length two) ≡ Done →
+trig_call : (room : ℕ) (m : Module) (one two : List ℕ) → guard_of m (length one) (length two) ≡ done →
     line_call room (bytes "TRIG") m one two
     ≡ with_queue m.queue (line_ran (after_of (start_line m.state one two) (event_of event.Trigger m.state one two)))
 trig_call room m one two e =
@@ -63,20 +63,20 @@ trig_call room m one two e =
     ∙ rw (trig_performed room false m.state one two)
 
 module _ (room : ℕ) (m : Module) (one two : List ℕ) where
-  both-done : guard_of m (length one) (length two) ≡ Done →
+  both-done : guard_of m (length one) (length two) ≡ done →
       DoesAs (line_call room (bytes "TRIG") m one two) (event_call event.Trigger m one two)
   unfolding event_call guarded after_of event_of sampled_in
   both-done e = rw (trig_call room m one two e, e) (record { after = refl; first = refl; second = refl; reply = refl })
 
-  both-refused : (r : Refusal) → guard_of m (length one) (length two) ≡ Refused r →
+  both-refused : (r : Refusal) → guard_of m (length one) (length two) ≡ Err r →
       DoesAs (line_call room (bytes "TRIG") m one two) (event_call event.Trigger m one two)
   unfolding line_call guarded event_call
   both-refused r e = rw e (record { after = refl; first = refl; second = refl; reply = refl })
 
   does_as : (o : Outcome) → guard_of m (length one) (length two) ≡ o →
       DoesAs (line_call room (bytes "TRIG") m one two) (event_call event.Trigger m one two)
-  does_as Done e = both-done e
-  does_as (Refused r) e = both-refused r e
+  does_as (Ok _) e = both-done e
+  does_as (Err r) e = both-refused r e
 
 pub trig_is_trigger : TrigIsTrigger
 unfolding event_call guarded event_of sampled_in after_of first_of drops

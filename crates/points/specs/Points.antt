@@ -1,26 +1,23 @@
 -- The points stored, over every call: §7.2, §7.3, §7.4, §7.6, §7.7, §7.9, §8.1, §8.4 and §11.2.
 -- What each call does to the history of stored pairs is said here. The module and its traces hold the last pairs of it
 -- after every call, and SPTS?, TRCL? and TRCB? reply them.
-use Rattle.std.specs.Prelude.{ℕ, ◌+◌, ◌-◌, ◌%◌, ◌≤◌, ◌<◌, min, Bool, cond, ◌≡◌, leb, eqb}
+use Rattle.std.specs.Prelude.{ℕ, ◌+◌, ◌-◌, ◌%◌, ◌≤◌, ◌<◌, min, Bool, cond, ◌≡◌, leb, eqb, Ok, Err, Some, None}
 use Rattle.std.specs.Prelude.{List, [], ◌∷◌, ◌++◌, length, get_or, take, drop}
 use Rattle.split.specs.Ascii.{bytes}
 use Rattle.line_text.specs.Texts.{texts_of}
 use Rattle.format.specs.Text.{plain}
 use Rattle.point.specs.Bytes.{little_endian}
 use Rattle.outcome.specs.declared.Refusal.TheVariants.{NotAllowed}
-use Rattle.outcome.specs.declared.Answer.TheVariants as answer
-use Rattle.outcome.specs.declared.Outcome.{Outcome}
-use Rattle.outcome.specs.declared.Outcome.TheVariants.{Done, Refused}
+use Rattle.outcome.specs.Code.{Outcome, done}
+use Rattle.outcome.specs.Answer.{refused_at}
 use Rattle.mnemonic.specs.declared.Form.{Form}
 use Rattle.mnemonic.specs.declared.Form.TheVariants.{Words, Floats}
 use Rattle.mnemonic.specs.declared.Action.{Action}
 use Rattle.mnemonic.specs.declared.Action.TheVariants as action
 use Rattle.command.specs.Arguments.{question_mark}
-use Rattle.command.specs.Parsed.{traces, parsed_of}
+use Rattle.command.specs.Parsed.{Parsed, traces, parsed_of}
 use Rattle.command.specs.declared.Kind.{Kind}
 use Rattle.command.specs.declared.Kind.TheVariants.{Set, Query, Act}
-use Rattle.command.specs.declared.Parsed.{Parsed}
-use Rattle.command.specs.declared.Parsed.TheVariants as parsed
 use Rattle.settings.specs.Limits.{capacity_most}
 use Rattle.settings.specs.Table.{send, value_of}
 use Rattle.storage.specs.Storage.{one_shot, tick_stores, trigger_stores}
@@ -88,9 +85,9 @@ after_kind (Act a) s history = after_action a s history
 
 -- §12.1 and §12.2: a command's text as it is read: nothing is stored where it is refused by 1 or 2, or empty (§2.6)
 unfoldable pub after_text : Parsed → State → History → History
-after_text parsed.Empty s history = history
-after_text (parsed.Refused r) s history = history
-after_text (parsed.Taken c) s history = after_kind c.kind s history
+after_text (Ok None) s history = history
+after_text (Err r) s history = history
+after_text (Ok (Some c)) s history = after_kind c.kind s history
 
 -- §2.6: the commands of a line in turn, each from the state that the one before it left, up to one that 4 refuses
 -- (§12.4)
@@ -107,8 +104,8 @@ history_after_line room line s one two history = after_texts room (texts_of line
 
 -- §1.4: a call: 11 and 9 refuse it before anything is stored
 unfoldable pub unless_refused : Outcome → History → History → History
-unless_refused Done now history = now
-unless_refused (Refused r) now history = history
+unless_refused (Ok _) now history = now
+unless_refused (Err r) now history = history
 
 -- §2.4: a line handed over whole: one over the line limit does not run
 unfoldable pub after_line_call : ℕ → List ℕ → Module → List ℕ → List ℕ → History → History
@@ -234,7 +231,7 @@ trace_query form t bin count = trace_name form ++ (question_mark ∷ joined (pla
 
 -- §1.4: a module that neither 11 nor 9 refuses, its traces, and the history that they hold
 pub record Holding (history : History) (m : Module) (one two : List ℕ) : Type 0 where
-  pub passes : guard_of m (length one) (length two) ≡ Done
+  pub passes : guard_of m (length one) (length two) ≡ done
   pub holds : Holds history m.state one two
 
 -- §7.9: how many points are held of a history
@@ -254,7 +251,7 @@ pub record PointsReplied (history : History) (m : Module) (one two : List ℕ) :
   pub beyond : (room : ℕ) (form : Form) (t bin count : ℕ) → 1 ≤ t → t ≤ traces → bin ≤ capacity_most → 1 ≤ count →
       count ≤ capacity_most →
       held_count history m < bin + count →
-      (line_call room (trace_query form t bin count) m one two).report.answer ≡ answer.Refused NotAllowed 1
+      (line_call room (trace_query form t bin count) m one two).report.answer ≡ refused_at NotAllowed 1
 
 -- §7.9, §8.1, §8.3 and §8.4: the points are replied so for every history, module and traces
 abbrev pub RepliesPoints : Type 0

@@ -1,9 +1,8 @@
 -- TRIG does what the trigger event does (§7.6).
 use Rattle.std.specs.Prelude.{ℕ, Bool, ◌≡◌, List, [], length}
 use Rattle.split.specs.Ascii.{bytes}
-use Rattle.outcome.specs.Answer.{report_of}
-use Rattle.outcome.specs.declared.Answer.TheVariants as answer
-use Rattle.outcome.specs.declared.Outcome.TheVariants.{Done}
+use Rattle.outcome.specs.Answer.{report_of, passed}
+use Rattle.outcome.specs.Code.{done}
 use Rattle.command.specs.Parsed.{parsed_of}
 use Rattle.state.specs.declared.State.{State}
 use Rattle.line.specs.Perform.{command_of}
@@ -27,6 +26,6 @@ pub record TrigIsTrigger : Type 0 where
       command_of room waiting (parsed_of (bytes "TRIG")) s one two ≡ event_of event.Trigger s one two
   pub line : (room : ℕ) (m : Module) (one two : List ℕ) →
       DoesAs (line_call room (bytes "TRIG") m one two) (event_call event.Trigger m one two)
-  pub answers : (room : ℕ) (m : Module) (one two : List ℕ) → guard_of m (length one) (length two) ≡ Done →
-      ((line_call room (bytes "TRIG") m one two).report ≡ report_of answer.Passed 0)
-      × ((event_call event.Trigger m one two).report ≡ Done)
+  pub answers : (room : ℕ) (m : Module) (one two : List ℕ) → guard_of m (length one) (length two) ≡ done →
+      ((line_call room (bytes "TRIG") m one two).report ≡ report_of passed 0)
+      × ((event_call event.Trigger m one two).report ≡ done)

@@ -1,10 +1,8 @@
 -- What it means that a state may hold a queue: the test as facts, and back. Assumes nothing.
 use Prim.Native.Nat.{ℕ, ◌≤◌, ◌<◌}
 use mathlib.Core.Path.{◌≡◌}
-use mathlib.Core.Bool.{true, false, ◌&&◌, and-eq-true_iff, and-true}
-use mathlib.Core.List.{List}
-use lib.Dec.{eqb}
-use lib.ListN.{take}
+use mathlib.Core.Bool.{true, false, and-eq-true_iff, and-true, and-false}
+use lib.Dec.{leb, eqb}
 use borrow.Author.Tests.{leb-true, eqb-true, le-leb, lt-leb, eq-eqb}
 use Rattle.laws.proofs.Tests.{split}
 use Rattle.queue.specs.declared.Queue.{Queue}
@@ -14,11 +12,6 @@ pub record Kept (q : Queue) (port : ℕ) : Type 0 where
   pub fits : q.len ≤ line_limit
   pub none : q.discarding ≡ true → q.len ≡ 0
   pub plain : no_end port (waiting_bytes q) ≡ true
-
--- no byte, no line end
-none-plain : (port n : ℕ) (l : List ℕ) → eqb n 0 && no_end port (take n l) ≡ eqb n 0
-unfolding no_end
-none-plain port n l = split (eqb n 0) (λ e. rw (eqb-true n 0 e)) (λ e. rw e)
 
 module _ (q : Queue) (port : ℕ) where
   pub facts : is_valid q port ≡ true → Kept q port
@@ -43,9 +36,10 @@ module _ (q : Queue) (port : ℕ) where
   unfolding is_valid
   keeps_long h = rw (lt-leb q.len line_limit h)
 
-  pub keeps_discarding : q.len ≤ line_limit → q.discarding ≡ true → is_valid q port ≡ eqb q.len 0
-  unfolding is_valid
-  keeps_discarding h d = rw (le-leb q.len line_limit h, d) (none-plain port q.len q.bytes)
+  pub keeps_discarding : q.discarding ≡ true → is_valid q port ≡ eqb q.len 0
+  unfolding is_valid no_end
+  keeps_discarding d =
+      rw d (split (eqb q.len 0) (λ e. rw (eqb-true q.len 0 e)) (λ e. rw (e, and-false (leb q.len line_limit))))
 
   pub keeps_waiting : q.len ≤ line_limit → q.discarding ≡ false → is_valid q port ≡ no_end port (waiting_bytes q)
   unfolding is_valid

@@ -1,7 +1,7 @@
 -- The parts in which the code takes a byte and tests a queue, each by what `Queue` defines. No promise of a public call
 -- speaks of these.
-use Rattle.std.specs.Prelude.{ℕ, ◌+◌, ◌<◌, ◌≡◌, Bool, false, cond, ◌&&◌, List, ltb, set, get_or}
-use Rattle.queue.specs.Queue.{Received, line_limit, ends_line, after_run}
+use Rattle.std.specs.Prelude.{ℕ, ◌≡◌, Bool, cond, ◌&&◌, List, ltb, set}
+use Rattle.queue.specs.Queue.{Received, line_limit, after_run}
 use Rattle.queue.specs.declared.Queue.{Queue}
 use Rattle.queue.specs.declared.QueueStep.{QueueStep}
 
@@ -20,11 +20,3 @@ pub record Describes (result : List ℕ → Received) (len b : ℕ) (r : QueueSt
       ≡ record { queue = queue_of (bytes_with r.stores len b bytes) r.line r.discarding; ending = r.ending }
   pub run : (bytes : List ℕ) → after_run r.ending (queue_of bytes r.line r.discarding)
       ≡ queue_of bytes r.len r.discarding
-
--- how many bytes are tested at once for a line's end
-abbrev pub block : ℕ
-block = 16
-
--- none of n bytes from the offset at on ends a line
-abbrev pub EndNone : ℕ → List ℕ → ℕ → ℕ → Type 0
-EndNone port bytes at n = (k : ℕ) → k < n → ends_line port (get_or bytes (at + k) 0) ≡ false

@@ -1,10 +1,10 @@
 // The queue of bytes that wait for their line's end.
 #![tactic(auto)]
 
-ghost use Rattle.std.specs.Prelude.{◌≡◌, true, false, ◌+◌, ◌≤◌, min, length, take, drop};
+ghost use Rattle.std.specs.Prelude.{◌≡◌, false, min};
 ghost use Rattle.queue.specs.Queue.{line_limit, empty_queue, ends_line, is_marked, appended_of, received_of};
 ghost use Rattle.queue.specs.Queue.{is_end, no_end, is_valid};
-ghost use Rattle.queue.specs.Parts.{queue_of, bytes_with, Describes, block, EndNone};
+ghost use Rattle.queue.specs.Parts.{queue_of, bytes_with, Describes};
 
 use line_text::LINE;
 
@@ -16,9 +16,6 @@ pub const GPIB: u8 = 1;
 
 // How many bytes are tested at once for a line's end.
 const BLOCK: usize = 16;
-
-// Where the last block of the queue begins.
-const LAST_BLOCK: usize = LINE - BLOCK;
 
 // The bytes of a line that has not ended.
 #[derive(Clone, Copy)]
@@ -32,7 +29,7 @@ pub struct Queue {
 }
 
 // What a byte ends.
-#[derive(Clone, Copy)]
+#[derive(Clone, Copy, PartialEq, Eq)]
 pub enum LineEnd {
     // No line.
     Nothing,
@@ -68,36 +65,40 @@ impl Queue {
             discarding: false,
         }
     }
+
+    // Whether a state of the port may have this queue: its part of refusal 11.
+    pub fn is_valid(&self, port: u8) -> bool
+        ensures { result ≡ is_valid self.now port }
+    {
+        if self.discarding {
+            return self.len == 0;
+        }
+        let Some(line) = self.bytes.get(..self.len) else {
+            return false;
+        };
+        ends_none(line, port)
+    }
 }
 
 // Whether a byte ends a line by itself: LF on both ports, CR on RS232.
 pub fn ends_line(port: u8, b: u8) -> bool
     ensures { result ≡ ends_line port b }
 {
-    if b == b'\n' {
-        return true;
-    }
-    if port == RS232 {
-        return b == b'\r';
-    }
-    false
+    b == b'\n' || (port == RS232 && b == b'\r')
 }
 
 // Whether a byte's end mark ends a line: on GPIB only.
 fn is_marked(port: u8, mark: bool) -> bool
     ensures { result ≡ is_marked port mark }
 {
-    if port != RS232 {
-        return mark;
-    }
-    false
+    port != RS232 && mark
 }
 
 // Whether a byte ends a line, by itself or by its end mark.
 pub fn is_end(port: u8, b: u8, mark: bool) -> bool
     ensures { result ≡ is_end port b mark }
 {
-    ends_line(port, b) | is_marked(port, mark)
+    ends_line(port, b) || is_marked(port, mark)
 }
 
 // A byte that ends no line by itself, after `len` bytes: the line's last one where it is marked.
@@ -162,10 +163,8 @@ pub fn step_of(len: usize, discarding: bool, port: u8, b: u8, mark: bool) -> Que
 pub fn store(bytes: &mut [u8; LINE], at: usize, b: u8, stores: bool)
     ensures { bytes.new ≡ bytes_with stores at b bytes.old }
 {
-    if stores {
-        if at < LINE {
-            bytes[at] = b;
-        }
+    if stores && at < LINE {
+        bytes[at] = b;
     }
 }
 
@@ -173,63 +172,28 @@ pub fn store(bytes: &mut [u8; LINE], at: usize, b: u8, stores: bool)
 pub fn end_index(len: usize) -> usize
     ensures { result ≡ min len line_limit }
 {
-    if len < LINE {
-        return len;
-    }
-    LINE
+    len.min(LINE)
 }
 
-// Whether no byte of a block ends a line. No byte ends the loop early, so that all of them are tested at once.
-fn block_ends_none(bytes: &[u8; LINE], at: usize, port: u8) -> bool
-    requires { at + block ≤ line_limit }
-    ensures { (result ≡ true → EndNone port bytes.now at block)
-        × (EndNone port bytes.now at block → result ≡ true) }
+// Whether no byte of a block ends a line. No byte ends the fold early, so that all of them are tested at once.
+fn block_ends_none(block: &[u8], port: u8) -> bool
+    ensures { result ≡ no_end port block.now }
 {
-    let mut none = true;
-    let mut k = 0;
-    while k < BLOCK {
-        none = none & !ends_line(port, bytes[at + k]);
-        k += 1;
-    }
-    none
+    block
+        .iter()
+        .fold(true, |none, b| none & !ends_line(port, *b))
 }
 
-// An offset before which none of the first `len` bytes ends a line, found by whole blocks; it may be past them.
-fn passed_over(bytes: &[u8; LINE], len: usize, port: u8) -> usize
-    requires { len ≤ length bytes.now }
-    ensures { no_end port (drop result (take len bytes.now))
-        ≡ no_end port (take len bytes.now) }
+// Whether no byte of these ends a line, tested by whole blocks.
+fn ends_none(bytes: &[u8], port: u8) -> bool
+    ensures { result ≡ no_end port bytes.now }
 {
-    let mut i = 0;
-    while i < len {
-        if LAST_BLOCK < i {
-            return i;
-        }
-        if block_ends_none(bytes, i, port) {} else {
-            return i;
-        }
-        i += BLOCK;
-    }
-    i
-}
-
-// Whether a state of the port may have a queue of these bytes, which are lent and not copied: its part of refusal 11.
-pub fn bytes_valid(bytes: &[u8; LINE], len: usize, discarding: bool, port: u8) -> bool
-    requires { length bytes.now ≡ line_limit }
-    ensures { result ≡ is_valid (queue_of bytes.now len discarding) port }
-{
-    if LINE < len {
-        return false;
-    }
-    if discarding {
-        return len == 0;
-    }
-    let mut i = passed_over(bytes, len, port);
-    while i < len {
-        if ends_line(port, bytes[i]) {
+    let mut rest = bytes;
+    while let Some((block, after)) = rest.split_at_checked(BLOCK) {
+        if !block_ends_none(block, port) {
             return false;
         }
-        i += 1;
+        rest = after;
     }
-    true
+    block_ends_none(rest, port)
 }

@@ -7,9 +7,8 @@ use native.Mathlib.Omega.{arith}
 use denote.Enum.Declared.{tag_of}
 use types.Run.{OneOf, miss}
 use Rattle.format.specs.Parts.{appended}
-use Rattle.reply_buffer.specs.declared.Sent.{Sent}
-use Rattle.reply_buffer.specs.Buffer.{fits_in}
-use Rattle.reply_buffer.specs.Parts.{sent_by, Sends}
+use Rattle.std.specs.Prelude.{Some}
+use Rattle.reply_buffer.specs.Parts.{Sends}
 use Rattle.reply_buffer.proofs.Over.{over_none}
 use Rattle.reply_buffer.proofs.Sending.{all_sent}
 use Rattle.command.specs.declared.QueryArgument.{QueryArgument}
@@ -62,6 +61,5 @@ none_replied (Query q) s waiting one two h = absurd (miss others 1 tt h)
 none_replied (Act a) s waiting one two h = refl
 
 -- nothing is sent, and the room keeps its bytes
-pub none-sent : (room : List ℕ) {r : Sent} → r ≡ sent_by [] 0 → Sends [] r room room
-unfolding fits_in
-none-sent room e = rw e (all_sent [] room room 0 refl (omega arith) (sym (over_none room)))
+pub none-sent : (room : List ℕ) → Sends [] (Some 0) room room
+none-sent room = all_sent [] room room 0 refl (omega arith) (sym (over_none room))

@@ -3,19 +3,18 @@
 
 ghost use Rattle.std.specs.Prelude.{◌≡◌, List, [], ℕ, ◌+◌, length};
 ghost use Rattle.storage.specs.Storage.{oldest_of};
-ghost use Rattle.reply_buffer.specs.Parts.{sent_by, Sends};
+ghost use Rattle.reply_buffer.specs.Parts.{Sends};
 ghost use Rattle.reply.specs.Reply.{terminated_text, trace_reply, query_reply, reply_of};
 
 mod text;
 
 use command::{Kind, QueryArgument};
 use mnemonic::Form;
-use reply_buffer::Sent;
 use state::State;
 use storage::Storage;
 
 // The text that a query replies, with the byte that ends it on the port.
-fn send_text(s: State, q: QueryArgument, waiting: bool, out: &mut [u8]) -> Sent
+fn send_text(s: State, q: QueryArgument, waiting: bool, out: &mut [u8]) -> Option<usize>
     ensures { Sends (terminated_text q s waiting) result out.new out.old }
 {
     let ending = format::push(
@@ -42,15 +41,16 @@ fn send_trace(
     one: &[u32],
     two: &[u32],
     out: &mut [u8],
-) -> Sent
+) -> Option<usize>
     ensures { Sends (trace_reply s form t bin count one.now two.now) result
         out.new out.old }
 {
     let place = point_index(s.acquisition.storage, s.installation.capacity, bin);
     if t == 1 {
-        return reply_buffer::send_points(one, place, count, form, out);
+        reply_buffer::send_points(one, place, count, form, out)
+    } else {
+        reply_buffer::send_points(two, place, count, form, out)
     }
-    reply_buffer::send_points(two, place, count, form, out)
 }
 
 // What a query replies: points for a trace read, a text for every other one.
@@ -61,7 +61,7 @@ fn send_query(
     one: &[u32],
     two: &[u32],
     out: &mut [u8],
-) -> Sent
+) -> Option<usize>
     ensures { Sends (query_reply q s waiting one.now two.now) result
         out.new out.old }
 {
@@ -71,17 +71,7 @@ fn send_query(
     send_text(s, q, waiting, out)
 }
 
-// Nothing to send, which fits any room.
-fn nothing() -> Sent
-    ensures { result ≡ sent_by [] 0 }
-{
-    Sent {
-        fits: true,
-        written: 0,
-    }
-}
-
-// A command's reply, where it fits; else nothing.
+// A command's reply, where it fits, and how many bytes it has; else nothing. What is no query has none.
 pub fn send_reply(
     s: State,
     kind: Kind,
@@ -89,12 +79,12 @@ pub fn send_reply(
     one: &[u32],
     two: &[u32],
     out: &mut [u8],
-) -> Sent
+) -> Option<usize>
     ensures { Sends (reply_of kind s waiting one.now two.now) result
         out.new out.old }
 {
     let Kind::Query(q) = kind else {
-        return nothing();
+        return Some(0);
     };
     send_query(s, q, waiting, one, two, out)
 }

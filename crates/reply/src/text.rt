@@ -25,9 +25,10 @@ fn value_now(s: State, entry: usize) -> u32
     ensures { result ≡ value_now s entry }
 {
     if entry == settings::FREQ {
-        return settings::in_force(s.settings, s.acquisition.external);
+        settings::in_force(s.settings, s.acquisition.external)
+    } else {
+        settings::value_of(s.settings, entry)
     }
-    settings::value_of(s.settings, entry)
 }
 
 // The text of an entry's value, by its row.
@@ -88,10 +89,8 @@ fn push_all(t: Text, bytes: &[u8]) -> Text
     ensures { bytes_of result ≡ appended (bytes_of t) bytes.now }
 {
     let mut text = t;
-    let mut i = 0;
-    while i < bytes.len() {
-        text = format::push(text, bytes[i]);
-        i += 1;
+    for b in bytes {
+        text = format::push(text, *b);
     }
     text
 }
@@ -130,8 +129,5 @@ pub fn text_of(s: State, q: QueryArgument, waiting: bool) -> Text
 pub fn terminator_of(port: u8) -> u8
     ensures { result ≡ terminator_of port }
 {
-    if port == state::RS232 {
-        return b'\r';
-    }
-    b'\n'
+    if port == state::RS232 { b'\r' } else { b'\n' }
 }

@@ -2,7 +2,7 @@
 use Prim.Native.Nat.{ℕ, zero, suc, ◌+◌, ◌-◌, ◌*◌, ◌%◌, ◌<◌, ◌≤◌}
 use mathlib.Core.Path.{◌≡◌, refl, ap, ◌∙◌}
 use mathlib.Core.List.{List, [], ◌∷◌, ◌++◌, append_assoc}
-use native.Mathlib.Nat.{mod-add-mod, mod-lt, add-zero, add_assoc}
+use native.Mathlib.Nat.{mod-add-mod, add-zero, add_assoc}
 use native.Mathlib.Omega.{arith}
 use borrow.Author.Tests.{ne_eqb}
 use lib.ListN.{length, take, drop, get_or, length-append}
@@ -57,17 +57,12 @@ same_words form trace p q (suc count) h =
 slot_mod : (slots place : ℕ) → 0 < slots → slot_of slots place ≡ place % slots
 slot_mod slots place h = rw (ne_eqb slots 0 (omega arith))
 
-pub word_slot : (trace : List ℕ) (place slot : ℕ) → slot ≡ slot_of (length trace) place → slot < length trace →
+pub word_slot : (trace : List ℕ) (place slot : ℕ) → slot ≡ slot_of (length trace) place →
     get_or trace slot 0 ≡ word_at trace place
 unfolding word_at
-word_slot trace place slot e h = ap (λ n. get_or trace n 0) (e ∙ slot_mod (length trace) place (omega arith))
-
-pub word_none : (trace : List ℕ) (place slot : ℕ) → slot ≡ slot_of (length trace) place → length trace ≤ slot →
-    word_at trace place ≡ 0
-unfolding word_at
-word_none [] place slot e h = refl
-word_none (x ∷ xs) place slot e h =
-    omega (arith, slot_mod (suc (length xs)) place (omega arith), mod-lt place {m = suc (length xs)} (omega arith))
+word_slot [] place slot e = refl
+word_slot (x ∷ xs) place slot e =
+    ap (λ n. get_or (x ∷ xs) n 0) (e ∙ slot_mod (suc (length xs)) place (omega arith))
 
 words_slot : (trace : List ℕ) (place i : ℕ) → word_at trace (slot_of (length trace) place + i) ≡ word_at trace (place + i)
 unfolding word_at

@@ -5,6 +5,7 @@ use mathlib.Core.Path.{◌≡◌, refl, sym, ap, ◌∙◌}
 use mathlib.Core.List.{List, [], ◌∷◌, ◌++◌}
 use native.Mathlib.Omega.{arith}
 use borrow.Author.Tests.{le-leb, lt-leb}
+use Rattle.std.specs.Prelude.{Some, None}
 use lib.Dec.{leb}
 use lib.ListN.{length, take, drop}
 use Rattle.mnemonic.specs.declared.Form.{Form}
@@ -15,7 +16,7 @@ use Rattle.reply_buffer.proofs.Points.{points_slot}
 
 -- a reply that does not fit leaves the room as it was
 pub not-sent : (bytes room : List ℕ) → length room < length bytes →
-    Sends bytes (record { fits = false; written = 0 }) room room
+    Sends bytes None room room
 unfolding overwrite fits_in sent_bytes
 not-sent bytes room h =
     let t : leb (length bytes) (length room) ≡ false = lt-leb (length bytes) (length room) h in
@@ -23,7 +24,7 @@ not-sent bytes room h =
 
 -- a reply that fits is sent whole
 pub all_sent : (bytes room new : List ℕ) (n : ℕ) → length bytes ≡ n → n ≤ length room → new ≡ overwrite bytes room →
-    Sends bytes (record { fits = true; written = n }) new room
+    Sends bytes (Some n) new room
 unfolding fits_in sent_bytes
 all_sent bytes room new n l h e =
     let t : leb (length bytes) (length room) ≡ true = le-leb (length bytes) (length room) (omega arith) in
@@ -37,7 +38,7 @@ take-shown (suc n) (b ∷ bytes) = ap (λ l. b ∷ l) (take-shown n bytes)
 
 -- a text that fits
 pub text-sent : (len : ℕ) (bytes room new : List ℕ) (n : ℕ) → n ≡ length (take len bytes) → n ≤ length room →
-    new ≡ take n bytes ++ drop n room → Sends (take len bytes) (record { fits = true; written = n }) new room
+    new ≡ take n bytes ++ drop n room → Sends (take len bytes) (Some n) new room
 unfolding overwrite
 text-sent len bytes room new n e h p =
     all_sent (take len bytes) room new n (sym e) h (p ∙ rw e (rw (take-shown len bytes) refl))
@@ -45,7 +46,7 @@ text-sent len bytes room new n e h p =
 -- points written from the slot of their place on
 pub points-sent : (form : Form) (trace : List ℕ) (place count slot : ℕ) (room new : List ℕ) →
     slot ≡ slot_of (length trace) place → 4 * count ≤ length room → new ≡ overwrite (point_bytes form trace slot count) room →
-    Sends (point_bytes form trace place count) (record { fits = true; written = 4 * count }) new room
+    Sends (point_bytes form trace place count) (Some (4 * count)) new room
 points-sent form trace place count slot room new e h p =
     all_sent (point_bytes form trace place count) room new (4 * count) (point_bytes-length form trace place count) h
     (p ∙ ap (λ bytes. overwrite bytes room) (ap (λ n. point_bytes form trace n count) e ∙ points_slot form trace place count))

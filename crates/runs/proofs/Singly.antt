@@ -10,11 +10,11 @@ use borrow.Author.Tests.{ltb-true, lt-ltb}
 use lib.Dec.{ltb}
 use lib.ListN.{length, take, drop}
 use lib.Seq.{take-append-le, take-append-add, length-take-le}
+use Rattle.std.specs.Prelude.{Ok, Err}
 use Rattle.laws.proofs.Tests.{split, cond_by, and_first, and_second}
 use Rattle.outcome.specs.declared.Refusal.{Refusal}
-use Rattle.outcome.specs.declared.Outcome.TheVariants.{Done}
-use Rattle.outcome.specs.declared.Answer.{Answer}
-use Rattle.outcome.specs.declared.Answer.TheVariants.{Passed, Refused}
+use Rattle.outcome.specs.Code.{done}
+use Rattle.outcome.specs.Answer.{Answer, refused_at}
 use Rattle.queue.specs.Queue.{line_limit, waiting_bytes, received_of}
 use Rattle.reply_buffer.specs.Buffer.{overwrite}
 use Rattle.module.specs.Module.{guard_of}
@@ -46,13 +46,13 @@ fed_of r =
 
 -- 11 and 9 do not refuse the next call, the queue has all its bytes, and what is reported is written
 record Good (r : Run) : Type 0 where
-  goes : guard_of r.after (length r.one) (length r.two) ≡ Done
+  goes : guard_of r.after (length r.one) (length r.two) ≡ done
   long : length r.after.queue.bytes ≡ line_limit
   kept : replied_length r ≤ length r.out
 
 -- a call that 11 and 9 do not refuse does what the byte does
 not-refused : (room b : ℕ) (mark : Bool) (m : Module) (one two : List ℕ) →
-    guard_of m (length one) (length two) ≡ Done → byte_call room b mark m one two ≡ byte_received room b mark m one two
+    guard_of m (length one) (length two) ≡ done → byte_call room b mark m one two ≡ byte_received room b mark m one two
 unfolding byte_call guarded
 not-refused room b mark m one two e = rw e
 
@@ -184,16 +184,16 @@ module _ (room : ℕ) (mark : Bool) where
 
 -- an answer that is a refusal
 abbrev IsRefused : Answer → Type 0
-IsRefused Passed = ⊥
-IsRefused (Refused r place) = Unit {0}
+IsRefused (Ok _) = ⊥
+IsRefused (Err e) = Unit {0}
 
 -- the first refusal has a line, counted from 1
 first-placed : (a : Answer) (line : ℕ) (later : Answer) (before : ℕ) → (IsRefused a → 0 < line) →
     IsRefused (first_answer a later) → 0 < first_line a line later (before + 1)
 unfolding first_answer first_line
-first-placed Passed line Passed before h i = absurd i
-first-placed Passed line (Refused r place) before h i = omega arith
-first-placed (Refused r place) line later before h i = h tt
+first-placed (Ok _) line (Ok _) before h i = absurd i
+first-placed (Ok _) line (Err e) before h i = omega arith
+first-placed (Err e) line later before h i = h tt
 
 module _ (room : ℕ) (mark : Bool) where
   -- a run whose refusal, where there is one, has a line
@@ -217,7 +217,7 @@ module _ (room : ℕ) (mark : Bool) where
 -- ---- the claim
 
 module _ (room : ℕ) (bytes : List ℕ) (mark : Bool) (m : Module) (one two : List ℕ)
-    (goes : guard_of m (length one) (length two) ≡ Done) where
+    (goes : guard_of m (length one) (length two) ≡ done) where
   abbrev end : Run
   end = run_from room mark bytes (start_run m one two)
 
@@ -248,10 +248,10 @@ module _ (room : ℕ) (bytes : List ℕ) (mark : Bool) (m : Module) (one two : L
       })
 
   line-told : (refusal : Refusal) (p : ℕ) →
-      (run_call room bytes mark m one two).report.report.answer ≡ Refused refusal p →
+      (run_call room bytes mark m one two).report.report.answer ≡ refused_at refusal p →
       0 < (run_call room bytes mark m one two).report.line
   line-told refusal p e =
-      let told : end.report.report.answer ≡ Refused refusal p =
+      let told : end.report.report.answer ≡ refused_at refusal p =
       sym (ap (λ c. c.report.report.answer) let_run) ∙ e in
       rw let_run (placed room mark bytes (start_run m one two) (λ i. absurd i) (subst IsRefused (sym told) tt))
 

@@ -1,9 +1,8 @@
 -- A run of bytes (§2.9) against the same bytes handed over one by one, each by a call of its own (§2.2).
 use Rattle.std.specs.Prelude.{ℕ, suc, ◌+◌, ◌-◌, ◌<◌, ◌≡◌, Bool, true, cond, List, [], ◌∷◌, ◌++◌, length, take}
 use Rattle.outcome.specs.declared.Refusal.{Refusal}
-use Rattle.outcome.specs.declared.Outcome.TheVariants.{Done}
-use Rattle.outcome.specs.declared.Answer.{Answer}
-use Rattle.outcome.specs.declared.Answer.TheVariants.{Passed, Refused}
+use Rattle.outcome.specs.Code.{done}
+use Rattle.outcome.specs.Answer.{Answer, passed, refused_at}
 use Rattle.queue.specs.Queue.{line_limit, is_end}
 use Rattle.reply_buffer.specs.After.{After}
 use Rattle.module.specs.Module.{guard_of}
@@ -33,7 +32,7 @@ pub record Fed : Type 0 where
 -- before the first byte
 abbrev pub unfed : Module → List ℕ → List ℕ → Fed
 unfed m one two =
-    record { after = m; one = one; two = two; replies = []; written = []; ended = 0; answer = Passed; line = 0 }
+    record { after = m; one = one; two = two; replies = []; written = []; ended = 0; answer = passed; line = 0 }
 
 -- §2.2: one more byte by a call of its own, lent what the replies so far leave of the room, which it writes there
 unfoldable pub fed_with : ℕ → ℕ → Bool → Fed → Fed
@@ -94,9 +93,9 @@ pub record SameAsSingly (lent : ℕ) (bytes : List ℕ) (mark : Bool) (m : Modul
 -- counted from 1. A module's queue has room for 256 bytes, by its type.
 pub record RunsAreBytes : Type 0 where
   pub same : (room : ℕ) (bytes : List ℕ) (mark : Bool) (m : Module) (one two : List ℕ) →
-      length m.queue.bytes ≡ line_limit → guard_of m (length one) (length two) ≡ Done →
+      length m.queue.bytes ≡ line_limit → guard_of m (length one) (length two) ≡ done →
       SameAsSingly room bytes mark m one two (run_call room bytes mark m one two)
   pub placed : (room : ℕ) (bytes : List ℕ) (mark : Bool) (m : Module) (one two : List ℕ) (refusal : Refusal) (p : ℕ) →
-      guard_of m (length one) (length two) ≡ Done →
-      (run_call room bytes mark m one two).report.report.answer ≡ Refused refusal p →
+      guard_of m (length one) (length two) ≡ done →
+      (run_call room bytes mark m one two).report.report.answer ≡ refused_at refusal p →
       0 < (run_call room bytes mark m one two).report.line

@@ -4,14 +4,14 @@ use mathlib.Core.Path.{◌≡◌, sym, ap, ◌∙◌}
 use mathlib.Core.List.{List, ◌∷◌}
 use native.Mathlib.Omega.{arith}
 use lib.ListN.{length, take, drop}
+use Rattle.std.specs.Prelude.{Err}
 use Rattle.split.specs.Divide.{span, parts}
 use Rattle.split.proofs.Span.{part_first, part_last, part_more}
 use Rattle.outcome.specs.declared.Refusal.{Refusal}
-use Rattle.outcome.specs.declared.Outcome.TheVariants as outcome
-use Rattle.command.specs.Parsed.{parsed_of}
-use Rattle.command.specs.declared.Parsed.{Parsed}
+use Rattle.outcome.specs.Code.{done}
+use Rattle.command.specs.Parsed.{parsed_of, Parsed}
 use Rattle.line_text.specs.Texts.{semicolon}
-use Rattle.outcome.specs.declared.Answer.TheVariants as answer
+use Rattle.outcome.specs.Answer.{passed, refused_at}
 use Rattle.extreme_courses.specs.Extremes.{text_refusal, text_after}
 use Rattle.extreme_courses.specs.declared.Model.{Model}
 use Rattle.extreme_courses.specs.declared.Extremes.{Extremes}
@@ -39,20 +39,20 @@ module _ {model : Model} {text : List ℕ} {b₀ b : Extremes} {place a : ℕ} (
   unfolding texts_after
   went = v.past ∙ ap (λ ts. texts_after model ts b) here ∙ rw read
 
-  pub refused : (r : Refusal) (last : Extremes) → text_refusal p b ≡ outcome.Refused r →
-      Checks model (parts semicolon text) b₀ (record { extremes = last; answer = answer.Refused r place })
+  pub refused : (r : Refusal) (last : Extremes) → text_refusal p b ≡ Err r →
+      Checks model (parts semicolon text) b₀ (record { extremes = last; answer = refused_at r place })
   unfolding answer_at
   refused r last f =
       record { report = sym (answered ∙ rw f); past = λ z. let n : ◌≡◌ {A = ℕ} 0 1 = cc in absurd (omega arith) }
 
-  pub ending : text_refusal p b ≡ outcome.Done → e ≡ length text →
-      Checks model (parts semicolon text) b₀ (record { extremes = text_after model p b; answer = answer.Passed })
+  pub ending : text_refusal p b ≡ done → e ≡ length text →
+      Checks model (parts semicolon text) b₀ (record { extremes = text_after model p b; answer = passed })
   unfolding answer_at texts_answer texts_after
   ending f l =
       let n = part_last semicolon text a e v.inside at-e l in
       record { report = sym (answered ∙ rw (f, n)); past = λ z. sym (went ∙ rw n) }
 
-  pub again : text_refusal p b ≡ outcome.Done → e < length text → OnWay model text b₀ (text_after model p b) (place + 1) (e + 1)
+  pub again : text_refusal p b ≡ done → e < length text → OnWay model text b₀ (text_after model p b) (place + 1) (e + 1)
   unfolding answer_at
   again f l =
       let c = v.counted in

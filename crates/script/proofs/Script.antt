@@ -12,7 +12,7 @@ use Rattle.split.proofs.Span.{span_le}
 use Rattle.outcome.specs.declared.Refusal.{Refusal}
 use Rattle.outcome.specs.declared.Refusal.TheVariants.{NoReset, LongScriptLine}
 use Rattle.line_text.specs.Texts.{texts_of}
-use Rattle.outcome.specs.declared.Answer.TheVariants as answer
+use Rattle.outcome.specs.Answer.{passed, refused_at}
 use Rattle.extreme_courses.specs.declared.Model.{Model}
 use Rattle.extreme_courses.specs.Extremes.{before_line, start_extremes}
 use Rattle.extreme_courses.specs.declared.Extremes.{Extremes}
@@ -92,11 +92,11 @@ module _ {model : Model} {script : List ℕ} {b : Extremes} {line a : ℕ} (v : 
       unfolding line_answer
       answered = rw (size, le-ltb 256 (e - a) h, ← sw.report)
 
-      pub named : (r : Refusal) (place : ℕ) → s.answer ≡ answer.Refused r place → No line place r ≡ whole
+      pub named : (r : Refusal) (place : ℕ) → s.answer ≡ refused_at r place → No line place r ≡ whole
       unfolding finding found_by
       named r place f = sym (v.report ∙ rw (here, answered, f) (from_here line place r))
 
-      pub onward : s.answer ≡ answer.Passed → e ≤ length script → Left model script s.extremes (line + 1) (e + 1)
+      pub onward : s.answer ≡ passed → e ≤ length script → Left model script s.extremes (line + 1) (e + 1)
       unfolding finding found_by
       onward f g =
           let c = v.counted in

@@ -1,15 +1,13 @@
 -- The script check: §12.7, §12.8, §13.1, §13.2, §13.3, §13.4, §13.5, §13.7 and §13.8.
-use Rattle.std.specs.Prelude.{ℕ, suc, ◌+◌, Bool, cond, List, [], ◌∷◌, ltb, length}
+use Rattle.std.specs.Prelude.{ℕ, suc, ◌+◌, Bool, cond, List, [], ◌∷◌, ltb, length, Ok, Err}
 use Rattle.split.specs.Divide.{parts}
 use Rattle.outcome.specs.declared.Refusal.{Refusal}
 use Rattle.outcome.specs.declared.Refusal.TheVariants.{NoReset, LongScriptLine, BadTraces}
-use Rattle.outcome.specs.declared.Outcome.{Outcome}
-use Rattle.outcome.specs.declared.Outcome.TheVariants as outcome
+use Rattle.outcome.specs.Code.{Outcome}
+use Rattle.outcome.specs.Answer.{Answer, passed, refused_at}
 use Rattle.command.specs.Parsed.{parsed_of}
 use Rattle.line_text.specs.Clean.{line_limit, lf}
 use Rattle.line_text.specs.Texts.{texts_of}
-use Rattle.outcome.specs.declared.Answer.{Answer}
-use Rattle.outcome.specs.declared.Answer.TheVariants as answer
 use Rattle.extreme_courses.specs.Model.{model_fits}
 use Rattle.extreme_courses.specs.declared.Model.{Model}
 use Rattle.extreme_courses.specs.Extremes.{before_line, text_refusal, text_after, start_extremes}
@@ -21,12 +19,12 @@ use Rattle.verdict.specs.declared.Verdict.TheVariants.{Fine, No}
 
 -- §2.7: the answer to a line's commands from a place on: a refusal of the first one, else what the later ones answer
 unfoldable pub answer_at : Outcome → ℕ → Answer → Answer
-answer_at outcome.Done place later = later
-answer_at (outcome.Refused r) place later = answer.Refused r place
+answer_at (Ok _) place later = later
+answer_at (Err r) place later = refused_at r place
 
 -- §13.4 and §13.5: the first refusal among a line's commands, with its place
 unfoldable pub texts_answer : Model → ℕ → List (List ℕ) → Extremes → Answer
-texts_answer model place [] b = answer.Passed
+texts_answer model place [] b = passed
 texts_answer model place (t ∷ ts) b =
     let p = parsed_of t in
     answer_at (text_refusal p b) place (texts_answer model (place + 1) ts (text_after model p b))
@@ -44,7 +42,7 @@ line_too_long line = ltb line_limit (length line)
 -- with what can happen before it (§13.9)
 unfoldable pub line_answer : Model → List ℕ → Extremes → Answer
 line_answer model l b =
-    cond (line_too_long l) (answer.Refused LongScriptLine 0) (texts_answer model 1 (texts_of l) (before_line model b))
+    cond (line_too_long l) (refused_at LongScriptLine 0) (texts_answer model 1 (texts_of l) (before_line model b))
 
 -- §13.9: what is carried past a line
 abbrev pub line_after : Model → List ℕ → Extremes → Extremes
@@ -67,8 +65,8 @@ later (stop i place r) = stop (suc i) place r
 
 -- §13.8: a line's answer, and what is found behind it: the first refused line counts
 unfoldable pub found_by : Answer → Finding → Finding
-found_by answer.Passed rest = later rest
-found_by (answer.Refused r place) rest = stop 0 place r
+found_by (Ok _) rest = later rest
+found_by (Err e) rest = stop 0 e.place e.refusal
 
 -- §13.3: what the check finds in the lines of a script, line by line
 unfoldable pub finding : Model → List (List ℕ) → Extremes → Finding

@@ -13,7 +13,7 @@ ghost use Rattle.script.specs.Parts.{Checks};
 use extreme_courses::Extremes;
 pub use extreme_courses::Model;
 pub use outcome::Refusal;
-use outcome::{Answer, Outcome};
+use outcome::{Answer, PlacedRefusal};
 pub use verdict::{Verdict, packed_number};
 
 // A line's commands: the first refusal among them, and what is carried past them where there is none.
@@ -35,17 +35,17 @@ fn check_commands(model: Model, b: Extremes, text: &[u8]) -> LineCheck
         let e = split::end_of(text, b';', a);
         let p = command::parse(&text[a..e]);
         let outcome = extreme_courses::text_refusal(p, extremes);
-        if let Outcome::Refused(refusal) = outcome {
+        if let Err(refusal) = outcome {
             return LineCheck {
                 extremes,
-                answer: Answer::Refused(refusal, place),
+                answer: Err(PlacedRefusal { refusal, place }),
             };
         }
         extremes = extreme_courses::text_after(model, p, extremes);
         if e == text.len() {
             return LineCheck {
                 extremes,
-                answer: Answer::Passed,
+                answer: Ok(()),
             };
         }
         place += 1;
@@ -82,7 +82,7 @@ fn check_lines(model: Model, script: &[u8]) -> Verdict
         }
         let checked = check_line(model, extremes, &script[a..e]);
         let answer = checked.answer;
-        if let Answer::Refused(refusal, place) = answer {
+        if let Err(PlacedRefusal { refusal, place }) = answer {
             return Verdict::No(line, place, refusal);
         }
         extremes = checked.extremes;

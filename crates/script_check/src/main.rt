@@ -4,5 +4,5 @@
 // Reads the input, and writes the verdict on it.
 fn main(rt: HostRuntime) {
     let line = check_input::read_output(&mut rt.stdin());
-    check_input::write_line(&rt, line);
+    terminal::write_out(&rt, line.text());
 }

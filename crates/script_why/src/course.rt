@@ -2,7 +2,8 @@
 // the highest frequency that is taken, where one is measured, and then a trigger. These are the two courses that the
 // check follows.
 use crate::operation;
-use lockin::{Event, LineResult, Module, Refusal, Report};
+use lockin::{Event, Module, Refusal, Report};
+use terminal::Output;
 
 // The module's serial number.
 const SERIAL: u32 = 0;
@@ -23,101 +24,108 @@ pub struct Course {
     pub place: u32,
 }
 
-// The event of the highest frequency that is taken, where one is measured.
-fn measure(rt: &impl Print, course: Course, m: Module, one: &mut [u32], two: &mut [u32]) -> Module {
-    let state = m.state;
-    let settings = state.settings;
-    if settings::is_internal(settings) {
-        return m;
-    }
-    let frequency = extreme_courses::highest(settings::value_of(settings, settings::HARM));
-    if course.prints {
-        operation::print_measured(rt, frequency);
-    }
-    let taken = lockin::take_event(m, Event::Measured(frequency), one, two);
-    taken.after
+// A module, its traces and its reply buffer.
+#[derive(Drop)]
+pub struct Bench<'s> {
+    // The module.
+    module: Module,
+    // Trace 1.
+    one: &'s mut [u32],
+    // Trace 2.
+    two: &'s mut [u32],
+    // The reply buffer.
+    reply: &'s mut [u8],
 }
 
-// The trigger event.
-fn trigger(rt: &impl Print, course: Course, m: Module, one: &mut [u32], two: &mut [u32]) -> Module {
-    if course.prints {
-        operation::print_trigger(rt);
-    }
-    let taken = lockin::take_event(m, Event::Trigger, one, two);
-    taken.after
-}
-
-// The events before a line.
-fn events_before_line(
-    rt: &impl Print,
-    course: Course,
-    m: Module,
-    one: &mut [u32],
-    two: &mut [u32],
-) -> Module {
-    if course.has_events {
-        return trigger(rt, course, measure(rt, course, m, one, two), one, two);
-    }
-    m
-}
-
-// The events before a line, and the line.
-fn run_line(
-    rt: &impl Print,
-    course: Course,
-    m: Module,
-    text: &[u8],
-    one: &mut [u32],
-    two: &mut [u32],
-    reply: &mut [u8],
-) -> LineResult {
-    let called = lockin::take_line(
-        events_before_line(rt, course, m, one, two),
-        text,
-        one,
-        two,
-        reply,
-    );
-    if course.prints {
-        let report = called.report;
-        operation::print_line(rt, text, report.length);
-    }
-    called
-}
-
-// Whether a line answers refusal 3 at a place.
-fn refuses_at(report: Report, place: u32) -> bool {
-    let meaning = outcome::code_of(Refusal::NotAllowed);
-    let numbers = lockin::numbers_of(report);
-    if numbers.refusal == meaning.number {
-        return numbers.place == place;
-    }
-    false
-}
-
-// Runs the course up to the named line, and gives whether that line answers refusal 3 at the named place. What the
-// traces hold at the start is never read: a trace read sends only points that were stored since.
-pub fn run(
-    rt: &impl Print,
-    course: Course,
-    script: &[u8],
-    one: &mut [u32],
-    two: &mut [u32],
-    reply: &mut [u8],
-) -> bool {
-    let started = lockin::start(SERIAL, PORT, one, two);
-    let mut latest = started.after;
-    let mut line = 1;
-    let mut start = 0;
-    while start < script.len() {
-        let end = split::end_of(script, b'\n', start);
-        let called = run_line(rt, course, latest, &script[start..end], one, two, reply);
-        if line == course.line {
-            return refuses_at(called.report, course.place);
+impl<'s> Bench<'s> {
+    // A fresh module. What the traces hold is never read: a trace read sends only points that were stored since.
+    pub fn new(one: &'s mut [u32], two: &'s mut [u32], reply: &'s mut [u8]) -> Self {
+        Bench {
+            module: lockin::start(SERIAL, PORT, one, two).after,
+            one,
+            two,
+            reply,
         }
-        latest = called.after;
-        line += 1;
-        start = end + 1;
     }
-    false
+
+    // Hands an event to the module.
+    fn take_event(&mut self, e: Event) {
+        self.module = lockin::take_event(self.module, e, self.one, self.two).after;
+    }
+
+    // Hands a line to the module.
+    fn take_line(&mut self, text: &[u8]) -> Report {
+        let called = lockin::take_line(self.module, text, self.one, self.two, self.reply);
+        self.module = called.after;
+        called.report
+    }
+}
+
+impl Course {
+    // The event of the highest frequency that is taken, where one is measured.
+    fn measure(self, out: &mut Output<'_, '_, impl Print>, bench: &mut Bench<'_>) {
+        let settings = bench.module.state.settings;
+        if settings::is_internal(settings) {
+            return;
+        }
+        let frequency = extreme_courses::highest(settings::value_of(settings, settings::HARM));
+        if self.prints {
+            operation::write_measured(out, frequency);
+        }
+        bench.take_event(Event::Measured(frequency));
+    }
+
+    // The trigger event.
+    fn trigger(self, out: &mut Output<'_, '_, impl Print>, bench: &mut Bench<'_>) {
+        if self.prints {
+            operation::write_trigger(out);
+        }
+        bench.take_event(Event::Trigger);
+    }
+
+    // The events before a line, and the line.
+    fn run_line(
+        self,
+        out: &mut Output<'_, '_, impl Print>,
+        bench: &mut Bench<'_>,
+        text: &[u8],
+    ) -> Report {
+        if self.has_events {
+            self.measure(out, bench);
+            self.trigger(out, bench);
+        }
+        let report = bench.take_line(text);
+        if self.prints {
+            operation::write_line(out, text, report.length);
+        }
+        report
+    }
+
+    // Whether a line answers refusal 3 at the named place.
+    fn is_refused(self, report: Report) -> bool {
+        let meaning = outcome::code_of(Refusal::NotAllowed);
+        let numbers = lockin::numbers_of(report);
+        numbers.refusal == meaning.number && numbers.place == self.place
+    }
+
+    // Runs the course up to the named line, and gives whether that line answers refusal 3 at the named place.
+    pub fn run(
+        self,
+        out: &mut Output<'_, '_, impl Print>,
+        bench: &mut Bench<'_>,
+        script: &[u8],
+    ) -> bool {
+        let mut line = 1;
+        let mut rest = script;
+        while !rest.is_empty() {
+            let n = split::span_of(rest, b'\n');
+            let report = self.run_line(out, bench, &rest[..n]);
+            if line == self.line {
+                return self.is_refused(report);
+            }
+            line += 1;
+            rest = terminal::bytes_from(rest, n + 1);
+        }
+        false
+    }
 }

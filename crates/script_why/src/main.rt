@@ -7,9 +7,11 @@ ghost use Rattle.std.specs.Prelude.{◌≡◌, length};
 mod course;
 mod operation;
 
-use course::Course;
+use check_input::VerdictLine;
+use course::{Bench, Course};
 use outcome::Refusal;
 use settings::Settings;
+use terminal::Output;
 use verdict::Verdict;
 
 // The length of the longest trace.
@@ -18,7 +20,7 @@ const SLOTS: usize = Settings::CAPACITY_MOST as usize;
 // Room for every line's reply: a line of 256 bytes has at most 17 trace reads, of 65,532 bytes each.
 const ROOM: usize = 1114112;
 
-// A buffer for replies.
+// A buffer for replies. Made here, for the checker does not end where so long an array stands in a longer function.
 fn reply_buffer() -> [u8; ROOM]
     ensures { 1114112 ≡ length result }
 {
@@ -29,12 +31,12 @@ fn reply_buffer() -> [u8; ROOM]
 // module is refused there (`FirstRefused`, crates/demand3/specs/Demand3.antt), and its events are those of one of these
 // two (crates/demand3/proofs/Completeness.antt).
 fn print_course(
-    rt: &impl Print,
+    out: &mut Output<'_, '_, impl Print>,
+    one: &mut [u32],
+    two: &mut [u32],
     script: &[u8],
     line: usize,
     place: u32,
-    one: &mut [u32],
-    two: &mut [u32],
 ) {
     let mut reply = reply_buffer();
     let tried = Course {
@@ -43,29 +45,30 @@ fn print_course(
         line,
         place,
     };
-    let refused = course::run(rt, tried, script, one, two, &mut reply);
-    operation::print_start(rt, one.len());
+    let refused = tried.run(out, &mut Bench::new(one, two, &mut reply), script);
+    operation::write_start(out, one.len());
     let printed = Course {
         has_events: !refused,
         prints: true,
-        line,
-        place,
+        ..tried
     };
-    course::run(rt, printed, script, one, two, &mut reply);
+    printed.run(out, &mut Bench::new(one, two, &mut reply), script);
 }
 
 // Writes a course that shows the refusal 3 of a script at a line and a place.
 fn explain(rt: &impl Print, capacity: usize, script: &[u8], line: usize, place: u32) {
+    let mut buffer = io::buffer();
+    let mut out = Output::new(rt, &mut buffer);
     let mut one = [0u32; SLOTS];
     let mut two = [0u32; SLOTS];
     if capacity <= SLOTS {
         print_course(
-            rt,
+            &mut out,
+            &mut one[..capacity],
+            &mut two[..capacity],
             script,
             line,
             place,
-            &mut one[0..capacity],
-            &mut two[0..capacity],
         );
     }
 }
@@ -76,7 +79,7 @@ fn main(rt: HostRuntime) {
     let input = check_input::read_input(&mut rt.stdin(), &mut script);
     let bytes = terminal::first_bytes(&script, input.len);
     let verdict = check_input::limited_check(input.capacity, bytes);
-    check_input::report_verdict(&rt, verdict);
+    terminal::write_out(&rt, VerdictLine::of(verdict).text());
     if let Verdict::No(line, place, refusal) = verdict {
         if let Refusal::NotAllowed = refusal {
             explain(&rt, input.capacity as usize, bytes, line, place);

@@ -10,8 +10,7 @@ use lib.Seq.{get_or-set_same, get_or-set_other, set_out}
 use borrow.Author.Tests.{lt-ltb, le-ltb, le-leb, ltb-true, ltb-false, eqb-true, eqb-false}
 use Rattle.number.specs.Value.{Exact, exact_of, rounded, argument_of}
 use Rattle.number.specs.declared.Range.{Range}
-use Rattle.number.specs.declared.Argument.{Argument}
-use Rattle.number.specs.declared.Argument.TheVariants.{Value, Refused}
+use Rattle.std.specs.Prelude.{Option, Some, None}
 use Rattle.number.proofs.Exact.{under_pos}
 use Rattle.settings.specs.Limits.{hertz, frequency_low, frequency_high}
 use Rattle.settings.specs.Table.{entries, table, row_of, phase, frequency, turned_of, value_of, with_value}
@@ -77,7 +76,7 @@ module _ (v : Exact) (pos : 0 < v.under) where
   under k = ltb v.over (k * v.under)
 
   -- what is taken of it lies in the range and on its step
-  lies : (x : ℕ) → argument_of (range_with frequency (exact_step v)) v ≡ Value x → Lies x
+  lies : (x : ℕ) → argument_of (range_with frequency (exact_step v)) v ≡ Some x → Lies x
   unfolding step_by under
   lies x e =
       by (under (hertz 10)) (under (hertz 100)) (under (hertz 1000)) (under (hertz 10000)) (under (hertz 100000))
@@ -194,11 +193,11 @@ module _ (entry : ℕ) where
 
 module _ (entry : ℕ) (v : Exact) (pos : 0 < v.under) where
   -- what is taken of the value, before it is turned
-  taken : Argument
+  taken : Option ℕ
   taken = argument_of (range_with (row_of entry) (step_with (row_of entry) (exact_step v))) v
 
   -- and any other
-  other_keeps : (row_of entry).turns ≡ false → (row_of entry).scales ≡ false → (x : ℕ) → taken ≡ Value x →
+  other_keeps : (row_of entry).turns ≡ false → (row_of entry).scales ≡ false → (x : ℕ) → taken ≡ Some x →
       value_valid entry x ≡ true
   unfolding value_valid step_of taken
   other_keeps p f x e =
@@ -208,18 +207,18 @@ module _ (entry : ℕ) (v : Exact) (pos : 0 < v.under) where
       rw (q.least, q.most, f, le-leb (row_of entry).low x i.low, le-leb x (row_of entry).high i.high, s)
 
   -- what an argument is taken as, once it is turned
-  value_keeps : (x : ℕ) → turned_at (row_of entry).turns taken ≡ Value x → value_valid entry x ≡ true
+  value_keeps : (x : ℕ) → turned_at (row_of entry).turns taken ≡ Some x → value_valid entry x ≡ true
   unfolding turned_at taken
   value_keeps x = by taken refl where
-    which : (a b : Bool) → (row_of entry).turns ≡ a → (row_of entry).scales ≡ b → (y : ℕ) → taken ≡ Value y →
+    which : (a b : Bool) → (row_of entry).turns ≡ a → (row_of entry).scales ≡ b → (y : ℕ) → taken ≡ Some y →
         cond a (turned_of y) y ≡ x → value_valid entry x ≡ true
     which true b p f y e q = rw (sym q) (phase_keeps entry p y)
     which false true p f y e q = rw (sym q) (frequency_keeps entry f y (lies v pos y (rw (frequency-row entry f) at e)))
     which false false p f y e q = rw (sym q) (other_keeps p f y e)
 
-    by : (t : Argument) → taken ≡ t → turned_at (row_of entry).turns t ≡ Value x → value_valid entry x ≡ true
-    by Refused p q = let z : ◌≡◌ {A = ℕ} 0 1 = cc in absurd (omega arith)
-    by (Value y) p q = which (row_of entry).turns (row_of entry).scales refl refl y p (cc)
+    by : (t : Option ℕ) → taken ≡ t → turned_at (row_of entry).turns t ≡ Some x → value_valid entry x ≡ true
+    by None p q = let z : ◌≡◌ {A = ℕ} 0 1 = cc in absurd (omega arith)
+    by (Some y) p q = which (row_of entry).turns (row_of entry).scales refl refl y p (cc)
 
 -- what a text sets may be kept
 pub setting_keeps : SettingValid

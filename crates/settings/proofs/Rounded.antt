@@ -10,7 +10,7 @@ use lib.Dec.{leb}
 use borrow.Author.Tests.{leb-true}
 use Rattle.number.specs.Value.{Exact, in_range, nearest, rounded, is_whole, argument_of}
 use Rattle.number.specs.declared.Range.{Range}
-use Rattle.number.specs.declared.Argument.TheVariants.{Value, Refused}
+use Rattle.std.specs.Prelude.{Some, None}
 use Rattle.laws.proofs.Tests.{and_first, and_second}
 
 -- whole bounds of b + a / d bound b and the number nearest to a / d
@@ -52,7 +52,7 @@ pub record Below (r : Range) (v : Exact) (x : ℕ) : Type 0 where
   pub value : r.bias - rounded r.step v ≡ x
 
 -- what is taken is one of these
-pub taken_as : (r : Range) (v : Exact) (x : ℕ) → argument_of r v ≡ Value x → Above r v x ⊎ Below r v x
+pub taken_as : (r : Range) (v : Exact) (x : ℕ) → argument_of r v ≡ Some x → Above r v x ⊎ Below r v x
 unfolding argument_of in_range
 taken_as r v x = whether (in_range r v && (not r.whole || is_whole v)) refl where
   sided : (n : Bool) →
@@ -73,14 +73,14 @@ taken_as r v x = whether (in_range r v && (not r.whole || is_whole v)) refl wher
       inl (record { low = b.0; high = b.1; value = e })
 
   whether : (t : Bool) → (in_range r v && (not r.whole || is_whole v)) ≡ t →
-      cond t (Value (cond v.negative (r.bias - rounded r.step v) (r.bias + rounded r.step v))) Refused
-      ≡ Value x
+      cond t (Some (cond v.negative (r.bias - rounded r.step v) (r.bias + rounded r.step v))) None
+      ≡ Some x
       → Above r v x ⊎ Below r v x
   whether true p e = sided v.negative (and_first (in_range r v) (not r.whole || is_whole v) p) (cc)
   whether false p e = let z : ◌≡◌ {A = ℕ} 0 1 = cc in absurd (omega arith)
 
 -- only the first where the range lies above zero
-pub taken_above : (r : Range) (v : Exact) → 0 < v.under → r.bias < r.low → (x : ℕ) → argument_of r v ≡ Value x →
+pub taken_above : (r : Range) (v : Exact) → 0 < v.under → r.bias < r.low → (x : ℕ) → argument_of r v ≡ Some x →
     Above r v x
 taken_above r v pos order x e =
     let l : r.bias * v.under < r.low * v.under = mul-lt-mul_of_pos_right order pos in
@@ -159,7 +159,7 @@ module _ (r : Range) (v : Exact) (pos : 0 < v.under) (al : Aligned r) where
       }
 
   -- an argument that is taken lies in its range and on its step
-  pub taken_inside : (x : ℕ) → argument_of r v ≡ Value x → Inside r x
+  pub taken_inside : (x : ℕ) → argument_of r v ≡ Some x → Inside r x
   taken_inside x e =
       ⊎_elim (λ (a : Above r v x). rw (sym a.value) (above a.low a.high))
       (λ (b : Below r v x). rw (sym b.value) (below b.low))

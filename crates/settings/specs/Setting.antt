@@ -1,9 +1,7 @@
 -- What an argument's text sets: by its row of the table (§5.1), with the phase's turns (§5.2) and FREQ's step (§5.3).
-use Rattle.std.specs.Prelude.{ℕ, ◌*◌, Bool, cond, List, ltb, eqb}
+use Rattle.std.specs.Prelude.{ℕ, ◌*◌, Bool, cond, List, ltb, eqb, Option, Some, None}
 use Rattle.number.specs.Value.{Exact, exact_of, argument_of}
 use Rattle.number.specs.declared.Range.{Range}
-use Rattle.number.specs.declared.Argument.{Argument}
-use Rattle.number.specs.declared.Argument.TheVariants.{Value, Refused}
 use Rattle.settings.specs.Table.{row_of, turned_of}
 use Rattle.settings.specs.Frequency.{step_by, frequency_step}
 use Rattle.settings.specs.declared.Row.{Row}
@@ -22,12 +20,13 @@ abbrev pub exact_step : Exact → ℕ
 exact_step v = step_by (λ k. ltb v.over (k * v.under))
 
 -- §5.2: what is kept of an argument once it is rounded: where the row turns, the phase by whole turns
-unfoldable pub turned_at : Bool → Argument → Argument
-turned_at turns Refused = Refused
-turned_at turns (Value x) = Value (cond turns (turned_of x) x)
+unfoldable pub turned_at : Bool → Option ℕ → Option ℕ
+turned_at turns None = None
+turned_at turns (Some x) = Some (cond turns (turned_of x) x)
 
--- §5.1: what the text s of a number sets at an entry: the value kept, or refusal 2 (§3.7)
-unfoldable pub setting_of : ℕ → List ℕ → Argument
+-- §5.1: what the text s of a number sets at an entry: the value kept, or None, which is refusal 2
+-- (§3.7)
+unfoldable pub setting_of : ℕ → List ℕ → Option ℕ
 setting_of entry s =
     let row = row_of entry in
     let v = exact_of row.decimals s in

@@ -6,7 +6,7 @@ ghost use Rattle.settings.specs.Table.{entries, row_of, start_settings, turned_o
 ghost use Rattle.settings.specs.Frequency.{frequency_step, is_internal, in_force, detection_of, frequency_in_range};
 ghost use Rattle.settings.specs.Frequency.{within_limit, is_upper, range_at, range_stands, time_constant_stands};
 ghost use Rattle.settings.specs.Frequency.{change_bits, range_effect_of};
-ghost use Rattle.settings.specs.Setting.{step_with, turned_at};
+ghost use Rattle.settings.specs.Setting.{step_with};
 ghost use Rattle.settings.specs.Parts.{range_of, value_taken};
 ghost use Rattle.settings.specs.Valid.{every, values_valid, valid_settings};
 
@@ -164,7 +164,7 @@ pub struct Settings {
 }
 
 // The frequency range: which time constants there are goes by it.
-#[derive(Clone, Copy)]
+#[derive(Clone, Copy, PartialEq, Eq)]
 pub enum FrequencyRange {
     // The one above the band: no long time constants.
     Upper,
@@ -357,10 +357,7 @@ pub fn within_limit(detection: u64) -> bool
 fn is_upper(range: FrequencyRange) -> bool
     ensures { result ≡ is_upper range }
 {
-    match range {
-        FrequencyRange::Upper => true,
-        FrequencyRange::Lower => false,
-    }
+    range == FrequencyRange::Upper
 }
 
 // The range at a detection frequency: inside the band it stays the old one.
@@ -397,16 +394,7 @@ pub fn time_constant_stands(range: FrequencyRange, constant: u32) -> bool
 fn change_bits(old: FrequencyRange, new: FrequencyRange) -> u8
     ensures { result ≡ change_bits old new }
 {
-    match old {
-        FrequencyRange::Upper => match new {
-            FrequencyRange::Upper => 0,
-            FrequencyRange::Lower => RANGE_CHANGED,
-        },
-        FrequencyRange::Lower => match new {
-            FrequencyRange::Upper => RANGE_CHANGED,
-            FrequencyRange::Lower => 0,
-        },
-    }
+    if old == new { 0 } else { RANGE_CHANGED }
 }
 
 // What comes of a range that was old and is new.
@@ -454,26 +442,14 @@ fn range_of(row: Row, whole: u64) -> number::Range
     }
 }
 
-// A number taken as an entry's argument, or refusal 2: where the row turns, it is turned once it is rounded.
-pub fn take_value(entry: usize, q: number::Quantity) -> number::Argument
+// A number taken as an entry's argument, or None, which is refusal 2: where the row turns, it is turned once it is
+// rounded.
+pub fn take_value(entry: usize, q: number::Quantity) -> Option<u32>
     ensures { result ≡ value_taken entry q }
 {
     let row = row_of(entry);
     let range = range_of(row, q.whole);
-    turned_at(row.turns, number::take(q, range))
-}
-
-// An argument, turned where its row turns.
-fn turned_at(turns: bool, taken: number::Argument) -> number::Argument
-    ensures { result ≡ turned_at turns taken }
-{
-    let number::Argument::Value(value) = taken else {
-        return number::Argument::Refused;
-    };
-    if turns {
-        return number::Argument::Value(turned(value));
-    }
-    number::Argument::Value(value)
+    number::take(q, range).map(|value| if row.turns { turned(value) } else { value })
 }
 
 // Whether every value lies in its entry's range. No value ends the loop early: so it is unrolled whole, four values are
@@ -482,15 +458,12 @@ fn in_ranges(s: Settings) -> bool
     ensures { result ≡ every
         (λ e. leb (row_of e).least (value_of s e) && leb (value_of s e) (row_of e).most) entries }
 {
-    let values = s.values;
     let least = table::leasts();
     let most = table::mosts();
     let mut inside = true;
-    let mut entry = 0;
-    while entry < ENTRIES {
-        let value = values[entry];
-        inside = inside & ((least[entry] <= value) & (value <= most[entry]));
-        entry += 1;
+    for entry in 0..ENTRIES {
+        let value = s.values[entry];
+        inside &= (least[entry] <= value) & (value <= most[entry]);
     }
     inside
 }

@@ -3,25 +3,14 @@ use mathlib.Core.Path.{◌≡◌, refl}
 use mathlib.Core.List.{List, [], ◌∷◌}
 use Prim.Native.Nat.{ℕ, zero, suc, ◌+◌, ◌-◌, ◌≤◌, ◌<◌}
 use native.Mathlib.Omega.{arith}
-use native.Mathlib.Numerals.{add-one}
-use lib.Dec.{eqb}
+use lib.Dec.{eqb, ltb}
+use Rattle.std.specs.Option.{unwrap_or}
+use Rattle.std.specs.List.{position, position_or_len}
 use lib.ListN.{length, length-drop, take, drop, get_or}
-use lib.Seq.{drop-cons, drop-drop, drop-length, take_all}
-use borrow.Author.Tests.{eq-eqb, ne_eqb}
+use lib.Seq.{drop-drop, take_all}
+use borrow.Author.Tests.{ltb-false}
 use Rattle.laws.proofs.Tests.{split, cond_by}
 use Rattle.split.specs.Divide.{span, on_head, parts}
-
-pub span_hit : (sep : ℕ) (s : List ℕ) (i : ℕ) → i < length s → get_or s i 0 ≡ sep → span sep (drop i s) ≡ 0
-unfolding span
-span_hit sep s i h e = rw (drop-cons s i 0 h, eq-eqb (get_or s i 0) sep e)
-
-pub span_miss : (sep : ℕ) (s : List ℕ) (i : ℕ) → i < length s → (get_or s i 0 ≡ sep → ⊥) → span sep (drop i s) ≡ suc (span sep (drop (i + 1) s))
-unfolding span
-span_miss sep s i h e = rw (drop-cons s i 0 h, ne_eqb (get_or s i 0) sep e, add-one i)
-
-pub span-end : (sep : ℕ) (s : List ℕ) (i : ℕ) → i ≡ length s → span sep (drop i s) ≡ 0
-unfolding span
-span-end sep s i e = rw (e, drop-length s)
 
 pub span_le : (sep : ℕ) (xs : List ℕ) → span sep xs ≤ length xs
 unfolding span
@@ -29,6 +18,19 @@ span_le sep [] = omega arith
 span_le sep (x ∷ xs) =
     let h = span_le sep xs in
     cond_by (λ n. n ≤ suc (length xs)) (eqb x sep) (λ e. omega arith) (λ e. omega arith)
+
+-- the bytes that are no separator, at the front
+span_prefix : (sep : ℕ) (xs : List ℕ) → position_or_len (λ b. eqb b sep) xs ≡ span sep xs
+unfolding span
+span_prefix sep [] = refl
+span_prefix sep (x ∷ xs) = split (eqb x sep) (λ e. rw e) (λ e. rw (e, span_prefix sep xs) (omega arith))
+
+-- the first separator's index, or the length where there is none
+pub span_position : (sep : ℕ) (xs : List ℕ) → unwrap_or (position (λ b. eqb b sep) xs) (length xs) ≡ span sep xs
+span_position sep xs =
+    rw (span_prefix sep xs)
+    (split (ltb (span sep xs) (length xs)) (λ e. rw e)
+    (λ e. rw e (omega (arith, ltb-false (span sep xs) (length xs) e, span_le sep xs))))
 
 -- the first part, and the others
 pub parts_first : (sep : ℕ) (s : List ℕ) → parts sep s ≡ take (span sep s) s ∷ drop 1 (parts sep s)

@@ -8,14 +8,7 @@ ghost use Rattle.split.specs.Divide.{span};
 pub fn span_of(s: &[u8], separator: u8) -> usize
     ensures { (result ≡ span separator s.now) × (result ≤ length s.now) }
 {
-    let mut i = 0;
-    while i < s.len() {
-        if s[i] == separator {
-            return i;
-        }
-        i += 1;
-    }
-    i
+    s.iter().position(|b| *b == separator).unwrap_or(s.len())
 }
 
 // Where the part that starts at offset `a` ends: at `a` itself where that is past the last byte.

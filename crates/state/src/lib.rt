@@ -50,8 +50,8 @@ pub struct Acquisition {
     pub range: FrequencyRange,
 }
 
-// The state. Only `State::start`, `Acquisition::start` and `range_settled` list their fields: every other function
-// changes a copy.
+// The state. Only `State::start` and `Acquisition::start` list their fields: every other function changes a
+// copy.
 #[derive(Clone, Copy)]
 pub struct State {
     // The value of each setting.
@@ -101,14 +101,8 @@ impl State {
 pub fn range_settled(s: Settings, m: Acquisition) -> Acquisition
     ensures { result ≡ range_settled s m }
 {
-    let old = m.range;
-    let storage = m.storage;
-    let range = settings::range_at(settings::detection(s, m.external), old);
-    Acquisition {
-        external: m.external,
-        storage,
-        range,
-    }
+    let range = settings::range_at(settings::detection(s, m.external), m.range);
+    Acquisition { range, ..m }
 }
 
 // The state once its detection frequency may have changed: the range acts on the time constant and on LIA.
@@ -153,11 +147,9 @@ pub fn sampling_of(s: Settings) -> Sampling
 pub fn trigger_of(s: State) -> StorageStep
     ensures { result ≡ trigger_of s }
 {
-    let acquisition = s.acquisition;
-    let installation = s.installation;
     storage::triggered(
-        acquisition.storage,
-        installation.capacity,
+        s.acquisition.storage,
+        s.installation.capacity,
         sampling_of(s.settings),
     )
 }
@@ -166,11 +158,9 @@ pub fn trigger_of(s: State) -> StorageStep
 pub fn tick_of(s: State) -> StorageStep
     ensures { result ≡ tick_of s }
 {
-    let acquisition = s.acquisition;
-    let installation = s.installation;
     storage::ticked(
-        acquisition.storage,
-        installation.capacity,
+        s.acquisition.storage,
+        s.installation.capacity,
         sampling_of(s.settings),
     )
 }
@@ -179,11 +169,8 @@ pub fn tick_of(s: State) -> StorageStep
 pub fn with_storage_of(s: State, p: StorageStep) -> State
     ensures { result ≡ with_storage_of p s }
 {
-    let storage = p.storage;
-    let mut acquisition = s.acquisition;
-    acquisition.storage = storage;
     let mut t = s;
-    t.acquisition = acquisition;
+    t.acquisition.storage = p.storage;
     t
 }
 
@@ -201,12 +188,14 @@ pub fn store(s: State, p: StorageStep, one: &mut [u32], two: &mut [u32])
     ensures { (one.new ≡ stored_in p s s.latest.one one.old)
         × (two.new ≡ stored_in p s s.latest.two two.old) }
 {
-    let stores = p.stores;
-    if stores {
-        let acquisition = s.acquisition;
-        let storage = acquisition.storage;
-        let latest = s.latest;
-        storage::put_pair(one, two, storage.next, latest.one, latest.two);
+    if p.stores {
+        storage::put_pair(
+            one,
+            two,
+            s.acquisition.storage.next,
+            s.latest.one,
+            s.latest.two,
+        );
     }
 }
 
@@ -214,7 +203,7 @@ pub fn store(s: State, p: StorageStep, one: &mut [u32], two: &mut [u32])
 pub fn latest_valid(p: Pair) -> bool
     ensures { result ≡ latest_valid p }
 {
-    point::legal(p.one) & point::legal(p.two)
+    point::legal(p.one) && point::legal(p.two)
 }
 
 // Whether serial number, port and capacity are in their ranges.
@@ -222,8 +211,8 @@ fn installation_valid(u: Installation) -> bool
     ensures { result ≡ installation_valid u }
 {
     let capacity = u.capacity;
-    let fits = (Settings::CAPACITY_LEAST <= capacity) & (capacity <= Settings::CAPACITY_MOST);
-    (u.serial <= SERIAL_MOST) & ((u.port <= GPIB) & fits)
+    let fits = Settings::CAPACITY_LEAST <= capacity && capacity <= Settings::CAPACITY_MOST;
+    u.serial <= SERIAL_MOST && u.port <= GPIB && fits
 }
 
 // Whether storage, status and settings are those of a valid state.
@@ -232,15 +221,14 @@ fn parts_valid(s: State) -> bool
 {
     let end = settings::value_of(s.settings, settings::SEND);
     let stored = storage::is_valid(s.acquisition.storage, s.installation.capacity, end);
-    let acquisition = s.acquisition;
-    let range = acquisition.range;
-    settings::are_valid(s.settings, acquisition.external, range)
-        & (stored & status::bits_valid(s.registers, s.enables))
+    settings::are_valid(s.settings, s.acquisition.external, s.acquisition.range)
+        && stored
+        && status::bits_valid(s.registers, s.enables)
 }
 
 // Whether the state is inside the ranges, steps and limits: not refused by 11.
 pub fn is_valid(s: State) -> bool
     ensures { result ≡ valid_state s }
 {
-    parts_valid(s) & (latest_valid(s.latest) & installation_valid(s.installation))
+    parts_valid(s) && latest_valid(s.latest) && installation_valid(s.installation)
 }

@@ -84,10 +84,7 @@ pub fn with_bits(x: u8, bits: u8) -> u8
 pub fn bit_of(x: u8, bit: u32) -> u8
     ensures { result ≡ bit_of x bit }
 {
-    if bit < 8 {
-        return (x >> bit) % 2;
-    }
-    0
+    if bit < 8 { (x >> bit) % 2 } else { 0 }
 }
 
 // A byte with one bit cleared and the others as they are.
@@ -95,22 +92,23 @@ pub fn without_bit(x: u8, bit: u32) -> u8
     ensures { result ≡ without_bit x bit }
 {
     if bit < 8 {
-        return x - (bit_of(x, bit) << bit);
+        x - (bit_of(x, bit) << bit)
+    } else {
+        x
     }
-    x
 }
 
 // A byte with a bit cleared where the value is 0, else set; past 7 it is unchanged.
 pub fn with_bit(x: u8, bit: u32, value: u32) -> u8
     ensures { result ≡ with_bit x bit value }
 {
-    if bit < 8 {
-        if value == 0 {
-            return without_bit(x, bit);
-        }
-        return x | (1 << bit);
+    if 8 <= bit {
+        x
+    } else if value == 0 {
+        without_bit(x, bit)
+    } else {
+        x | (1 << bit)
     }
-    x
 }
 
 // Whether two bytes have a bit in common.
@@ -173,20 +171,11 @@ fn with_register(r: Registers, which: Register, value: u8) -> Registers
     match which {
         Register::Standard => Registers {
             standard: value,
-            lia: r.lia,
-            errors: r.errors,
+            ..r
         },
         Register::Service => r,
-        Register::Lia => Registers {
-            standard: r.standard,
-            lia: value,
-            errors: r.errors,
-        },
-        Register::Errors => Registers {
-            standard: r.standard,
-            lia: r.lia,
-            errors: value,
-        },
+        Register::Lia => Registers { lia: value, ..r },
+        Register::Errors => Registers { errors: value, ..r },
     }
 }
 
@@ -222,8 +211,7 @@ pub fn with_standard(r: Registers, bits: u8) -> Registers
 {
     Registers {
         standard: r.standard | bits,
-        lia: r.lia,
-        errors: r.errors,
+        ..r
     }
 }
 
@@ -232,9 +220,8 @@ pub fn with_lia(r: Registers, bits: u8) -> Registers
     ensures { result ≡ with_lia r bits }
 {
     Registers {
-        standard: r.standard,
         lia: r.lia | bits,
-        errors: r.errors,
+        ..r
     }
 }
 
@@ -243,9 +230,9 @@ pub fn with_raised(r: Registers, lia: u8, errors: u8) -> Registers
     ensures { result ≡ with_raised r lia errors }
 {
     Registers {
-        standard: r.standard,
         lia: r.lia | lia,
         errors: r.errors | errors,
+        ..r
     }
 }
 
@@ -253,10 +240,7 @@ pub fn with_raised(r: Registers, lia: u8, errors: u8) -> Registers
 pub fn may_raise(lia: u8, errors: u8) -> bool
     ensures { result ≡ may_raise lia errors }
 {
-    if only_of(LIA_RAISED, lia) {
-        return only_of(ERRORS_RAISED, errors);
-    }
-    false
+    only_of(LIA_RAISED, lia) && only_of(ERRORS_RAISED, errors)
 }
 
 // The enable of the register `which`: *ESE, *SRE, LIAE or ERRE.
@@ -278,28 +262,14 @@ fn with_enable_byte(e: Enables, which: Register, byte: u8) -> Enables
     match which {
         Register::Standard => Enables {
             standard: byte,
-            service: e.service,
-            lia: e.lia,
-            errors: e.errors,
+            ..e
         },
         Register::Service => Enables {
-            standard: e.standard,
             service: without_bit(byte, SERVICE_BIT),
-            lia: e.lia,
-            errors: e.errors,
+            ..e
         },
-        Register::Lia => Enables {
-            standard: e.standard,
-            service: e.service,
-            lia: byte,
-            errors: e.errors,
-        },
-        Register::Errors => Enables {
-            standard: e.standard,
-            service: e.service,
-            lia: e.lia,
-            errors: byte,
-        },
+        Register::Lia => Enables { lia: byte, ..e },
+        Register::Errors => Enables { errors: byte, ..e },
     }
 }
 
@@ -324,10 +294,7 @@ fn flag_of(test: bool, bit: u32) -> u8
     requires { bit < 8 }
     ensures { result ≡ flag test bit }
 {
-    if test {
-        return 1 << bit;
-    }
-    0
+    u8::from(test) << bit
 }
 
 // Bits 0 to 5 of the status byte.
@@ -355,17 +322,8 @@ pub fn status_byte(r: Registers, e: Enables, p: Poll) -> u8
 pub fn bits_valid(r: Registers, e: Enables) -> bool
     ensures { result ≡ is_valid r e }
 {
-    if common(r.standard, STANDARD_UNUSED) {
-        return false;
-    }
-    if common(r.lia, LIA_UNUSED) {
-        return false;
-    }
-    if common(r.errors, ERRORS_UNUSED) {
-        return false;
-    }
-    if common(e.service, SERVICE_UNUSED) {
-        return false;
-    }
-    true
+    !common(r.standard, STANDARD_UNUSED)
+        && !common(r.lia, LIA_UNUSED)
+        && !common(r.errors, ERRORS_UNUSED)
+        && !common(e.service, SERVICE_UNUSED)
 }

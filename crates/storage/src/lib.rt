@@ -2,13 +2,13 @@
 #![tactic(auto)]
 
 ghost use Rattle.std.specs.Prelude.{◌≡◌, set};
-ghost use Rattle.storage.specs.Storage.{number, is_reset, is_running, is_paused, is_done, at_rest};
+ghost use Rattle.storage.specs.Storage.{is_reset, is_running, is_paused, is_done, at_rest};
 ghost use Rattle.storage.specs.Storage.{emptied_storage, started_of, paused_of, readied_of, ticked_of, triggered_of};
 ghost use Rattle.storage.specs.Storage.{next_slot, held_after, full_in_one_shot, stored_of, oldest_of, holds_of};
 ghost use Rattle.storage.specs.Storage.{slots_kept, done_kept, reset_kept, is_valid};
 
 // What storage is doing.
-#[derive(Clone, Copy)]
+#[derive(Clone, Copy, PartialEq, Eq)]
 pub enum Phase {
     // Empty, and not begun.
     Reset,
@@ -76,62 +76,46 @@ pub fn emptied() -> Storage
     }
 }
 
-// A number for each phase, by which phases are compared.
-fn number_of(phase: Phase) -> u8
-    ensures { result ≡ number phase }
-{
-    match phase {
-        Phase::Reset => 0,
-        Phase::Running => 1,
-        Phase::Paused => 2,
-        Phase::Done => 3,
-    }
-}
-
 // Whether storage is reset.
 pub fn is_reset(s: Storage) -> bool
     ensures { result ≡ is_reset s }
 {
-    let phase = s.phase;
-    number_of(phase) == 0
+    s.phase == Phase::Reset
 }
 
 // Whether storage is running.
 pub fn is_running(s: Storage) -> bool
     ensures { result ≡ is_running s }
 {
-    let phase = s.phase;
-    number_of(phase) == 1
+    s.phase == Phase::Running
 }
 
 // Whether storage is paused.
 fn is_paused(s: Storage) -> bool
     ensures { result ≡ is_paused s }
 {
-    let phase = s.phase;
-    number_of(phase) == 2
+    s.phase == Phase::Paused
 }
 
 // Whether storage is done.
 fn is_done(s: Storage) -> bool
     ensures { result ≡ is_done s }
 {
-    let phase = s.phase;
-    number_of(phase) == 3
+    s.phase == Phase::Done
 }
 
 // Storage after STRT: running, if it was reset or paused.
 pub fn started(s: Storage) -> Storage
     ensures { result ≡ started_of s }
 {
-    if is_reset(s) | is_paused(s) {
-        return Storage {
+    if is_reset(s) || is_paused(s) {
+        Storage {
             phase: Phase::Running,
-            held: s.held,
-            next: s.next,
-        };
+            ..s
+        }
+    } else {
+        s
     }
-    s
 }
 
 // Storage after PAUS: paused, if it was running.
@@ -139,20 +123,20 @@ pub fn paused(s: Storage) -> Storage
     ensures { result ≡ paused_of s }
 {
     if is_running(s) {
-        return Storage {
+        Storage {
             phase: Phase::Paused,
-            held: s.held,
-            next: s.next,
-        };
+            ..s
+        }
+    } else {
+        s
     }
-    s
 }
 
 // Whether storage is reset or done: status bit 0.
 pub fn at_rest(s: Storage) -> bool
     ensures { result ≡ at_rest s }
 {
-    is_reset(s) | is_done(s)
+    is_reset(s) || is_done(s)
 }
 
 // The slot after a slot: the first one after the last.
@@ -161,42 +145,37 @@ fn next_slot(slot: u32, capacity: u32) -> u32
 {
     let after = slot as u64 + 1;
     if after < capacity as u64 {
-        return after as u32;
+        after as u32
+    } else {
+        0
     }
-    0
 }
 
 // How many points are held once one more is stored.
 fn held_after(held: u32, capacity: u32) -> u32
     ensures { result ≡ held_after held capacity }
 {
-    if held < capacity {
-        return held + 1;
-    }
-    capacity
+    held.saturating_add(1).min(capacity)
 }
 
 // Whether `held` points fill one-shot storage.
 fn full_in_one_shot(held: u32, capacity: u32, end: u32) -> bool
     ensures { result ≡ full_in_one_shot held capacity end }
 {
-    (end == ONE_SHOT) & (capacity <= held)
+    end == ONE_SHOT && capacity <= held
 }
 
 // Storage once one more point is stored.
 pub fn stored(s: Storage, capacity: u32, end: u32) -> Storage
     ensures { result ≡ stored_of s capacity end }
 {
-    let phase = s.phase;
     let held = held_after(s.held, capacity);
     let next = next_slot(s.next, capacity);
-    if full_in_one_shot(held, capacity, end) {
-        return Storage {
-            phase: Phase::Done,
-            held,
-            next,
-        };
-    }
+    let phase = if full_in_one_shot(held, capacity, end) {
+        Phase::Done
+    } else {
+        s.phase
+    };
     Storage { phase, held, next }
 }
 
@@ -204,19 +183,14 @@ pub fn stored(s: Storage, capacity: u32, end: u32) -> Storage
 pub fn ticked(s: Storage, capacity: u32, by: Sampling) -> StorageStep
     ensures { result ≡ ticked_of s capacity by }
 {
-    if is_running(s) {
-        if by.rate != EXTERNAL_RATE {
-            let after = stored(s, capacity, by.end);
-            return StorageStep {
-                storage: after,
-                stores: true,
-                bits: 0,
-            };
-        }
-    }
+    let stores = is_running(s) && by.rate != EXTERNAL_RATE;
     StorageStep {
-        storage: s,
-        stores: false,
+        storage: if stores {
+            stored(s, capacity, by.end)
+        } else {
+            s
+        },
+        stores,
         bits: 0,
     }
 }
@@ -226,9 +200,10 @@ fn readied(s: Storage, by: Sampling) -> Storage
     ensures { result ≡ readied_of s by }
 {
     if by.start == TRIGGER_STARTS {
-        return started(s);
+        started(s)
+    } else {
+        s
     }
-    s
 }
 
 // What a trigger does: it starts storage where TSTR says so, then stores if storage is running at the external rate.
@@ -236,32 +211,16 @@ pub fn triggered(s: Storage, capacity: u32, by: Sampling) -> StorageStep
     ensures { result ≡ triggered_of s capacity by }
 {
     let ready = readied(s, by);
-    if is_running(ready) {
-        if by.rate == EXTERNAL_RATE {
-            let after = stored(ready, capacity, by.end);
-            return StorageStep {
-                storage: after,
-                stores: true,
-                bits: TRIGGERED,
-            };
-        }
-        if is_running(s) {
-            return StorageStep {
-                storage: ready,
-                stores: false,
-                bits: 0,
-            };
-        }
-        return StorageStep {
-            storage: ready,
-            stores: false,
-            bits: TRIGGERED,
-        };
-    }
+    let sets_running = !is_running(s) && is_running(ready);
+    let stores = is_running(ready) && by.rate == EXTERNAL_RATE;
     StorageStep {
-        storage: ready,
-        stores: false,
-        bits: 0,
+        storage: if stores {
+            stored(ready, capacity, by.end)
+        } else {
+            ready
+        },
+        stores,
+        bits: if sets_running || stores { TRIGGERED } else { 0 },
     }
 }
 
@@ -269,12 +228,7 @@ pub fn triggered(s: Storage, capacity: u32, by: Sampling) -> StorageStep
 pub fn oldest(s: Storage, capacity: u32) -> u64
     ensures { result ≡ oldest_of s capacity }
 {
-    let held = s.held;
-    let next = s.next as u64;
-    if held < capacity {
-        return next + (capacity - held) as u64;
-    }
-    next // every slot is held
+    s.next as u64 + capacity.saturating_sub(s.held) as u64
 }
 
 // Whether storage holds `count` points from the bin `bin` on.
@@ -288,42 +242,39 @@ pub fn holds(s: Storage, bin: u32, count: u32) -> bool
 fn slots_kept(s: Storage, capacity: u32) -> bool
     ensures { result ≡ slots_kept s capacity }
 {
-    let agrees = (capacity <= s.held) | (s.next == s.held);
-    (s.held <= capacity) & (s.next < capacity) & agrees
+    s.held <= capacity && s.next < capacity && (capacity <= s.held || s.next == s.held)
 }
 
 // Whether storage is done exactly if it is full in one shot, and its next slot is then slot 0.
 fn done_kept(s: Storage, capacity: u32, end: u32) -> bool
     ensures { result ≡ done_kept s capacity end }
 {
-    let done = is_done(s);
     if full_in_one_shot(s.held, capacity, end) {
-        return done & (s.next == 0);
+        is_done(s) && s.next == 0
+    } else {
+        !is_done(s)
     }
-    !done
 }
 
 // Whether storage that is reset holds no point.
 fn reset_kept(s: Storage) -> bool
     ensures { result ≡ reset_kept s }
 {
-    if is_reset(s) {
-        return s.held == 0;
-    }
-    true
+    !is_reset(s) || s.held == 0
 }
 
 // Whether a state may have this storage: its part of refusal 11.
 pub fn is_valid(s: Storage, capacity: u32, end: u32) -> bool
     ensures { result ≡ is_valid s capacity end }
 {
-    slots_kept(s, capacity) & done_kept(s, capacity, end) & reset_kept(s)
+    slots_kept(s, capacity) && done_kept(s, capacity, end) && reset_kept(s)
 }
 
 // Stores a word in a slot of a trace, if the trace has that slot.
 fn put(trace: &mut [u32], slot: u32, word: u32)
     ensures { trace.new ≡ set trace.old slot word }
 {
+    // Not by `get_mut`: once its borrow is over, a proof knows the slice's length and not its elements.
     let at = slot as usize;
     if at < trace.len() {
         trace[at] = word;

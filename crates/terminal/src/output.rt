@@ -1,88 +1,111 @@
-// Bytes for standard output, which wait in a buffer until they are written out. Each function that writes some is given
-// how many wait and gives how many wait afterwards; a full buffer is written out first.
+// Bytes for standard output, which wait in a buffer until they are written out, and parts of a text.
 ghost use Rattle.std.specs.Prelude.{◌≡◌, take, drop};
+
+use crate::hex;
+use std::fmt;
+use std::fmt::Write;
 
 // The first n bytes, all of them where there are fewer.
 pub fn first_bytes(bytes: &[u8], n: usize) -> &[u8]
     ensures { result.now ≡ take n bytes.now }
 {
-    if bytes.len() < n {
-        return bytes;
-    }
-    &bytes[0..n]
+    &bytes[..n.min(bytes.len())]
 }
 
 // The bytes behind the first n, none where there are fewer.
 pub fn bytes_from(bytes: &[u8], n: usize) -> &[u8]
     ensures { result.now ≡ drop n bytes.now }
 {
-    if n < bytes.len() {
-        return &bytes[n..];
-    }
-    &bytes[0..0]
+    &bytes[n.min(bytes.len())..]
 }
 
-// Writes out the first `len` bytes of a buffer. A write that fails is passed over: nothing that waits is kept for it.
-pub fn flush(rt: &impl Print, out: &[u8], len: usize) {
-    if 0 < len {
-        match rt.write_all(first_bytes(out, len)) {
-            Ok(()) | Err(_) => {}
+// Writes bytes to standard output, where there are any. A write that fails is passed over.
+pub fn write_out(rt: &impl Print, bytes: &[u8]) {
+    if !bytes.is_empty() {
+        let _ = rt.write_all(bytes);
+    }
+}
+
+// How many bytes are written in hex at once.
+const HEX_PART: usize = 128;
+
+// Standard output, and the bytes that wait for it. A full buffer is written out first.
+#[derive(Drop)]
+pub struct Output<'r, 'b, R: Print> {
+    // Where the bytes are written out.
+    rt: &'r R,
+    // Where they wait.
+    buffer: &'b mut [u8],
+    // How many wait.
+    len: usize,
+}
+
+impl<'r, 'b, R: Print> Output<'r, 'b, R> {
+    // Nothing waits in a buffer.
+    pub fn new(rt: &'r R, buffer: &'b mut [u8]) -> Self {
+        Output { rt, buffer, len: 0 }
+    }
+
+    // Writes out all bytes that wait. Where that fails they are gone.
+    pub fn flush(&mut self) {
+        let rt = self.rt;
+        let len = self.len;
+        write_out(rt, first_bytes(self.buffer, len));
+        self.len = 0;
+    }
+
+    // Writes a byte.
+    pub fn byte(&mut self, b: u8) {
+        if self.buffer.len() <= self.len {
+            self.flush();
+        }
+        if self.len < self.buffer.len() {
+            self.buffer[self.len] = b;
+            self.len += 1;
         }
     }
-}
 
-// Writes a byte.
-pub fn write_byte(rt: &impl Print, out: &mut [u8], at: usize, b: u8) -> usize {
-    if at < out.len() {
-        out[at] = b;
-        return at + 1;
+    // Stores bytes behind those that wait, where there is room for all of them.
+    fn store(&mut self, bytes: &[u8]) -> Option<()> {
+        let start = self.len;
+        let end = start.checked_add(bytes.len())?;
+        self.buffer.get_mut(start..end)?.copy_from_slice(bytes);
+        self.len = end;
+        Some(())
     }
-    flush(rt, out, at);
-    if out.len() == 0 {
-        return 0;
+
+    // Writes bytes.
+    pub fn bytes(&mut self, bytes: &[u8]) {
+        if self.store(bytes).is_none() {
+            for b in bytes {
+                self.byte(*b);
+            }
+        }
     }
-    out[0] = b;
-    1
-}
 
-// Writes a line's end, and writes out all bytes that wait.
-pub fn end_line(rt: &impl Print, out: &mut [u8], at: usize) {
-    let end = write_byte(rt, out, at, b'\n');
-    flush(rt, out, end);
-}
-
-// Writes bytes.
-pub fn write_bytes(rt: &impl Print, out: &mut [u8], at: usize, bytes: &[u8]) -> usize {
-    let mut end = at;
-    for b in bytes {
-        end = write_byte(rt, out, end, *b);
+    // Writes bytes in hex, `-` where there are none.
+    pub fn hex_bytes(&mut self, bytes: &[u8]) {
+        if bytes.is_empty() {
+            self.byte(b'-');
+        }
+        for part in bytes.chunks(HEX_PART) {
+            let mut digits = [0u8; 2 * HEX_PART];
+            hex::store_digits(&mut digits, part);
+            self.bytes(first_bytes(&digits, 2 * part.len()));
+        }
     }
-    end
-}
 
-// Writes a decimal number.
-pub fn write_number(rt: &impl Print, out: &mut [u8], at: usize, value: u64) -> usize {
-    let mut digits = [0u8; 20];
-    let n = io::decimal(value, &mut digits);
-    write_bytes(rt, out, at, &digits[0..n])
-}
-
-// Writes a text and a decimal number behind it.
-pub fn write_number_after(
-    rt: &impl Print,
-    out: &mut [u8],
-    at: usize,
-    text: &[u8],
-    value: u32,
-) -> usize {
-    let end = write_bytes(rt, out, at, text);
-    write_number(rt, out, end, value as u64)
-}
-
-// Writes the decimal number `value - bias`, with a minus where it is below zero.
-pub fn write_signed(rt: &impl Print, out: &mut [u8], at: usize, value: u32, bias: u32) -> usize {
-    if value < bias {
-        return write_number_after(rt, out, at, b"-", bias - value);
+    // Writes a line's end, and writes out all bytes that wait.
+    pub fn end_line(&mut self) {
+        self.byte(b'\n');
+        self.flush();
     }
-    write_number(rt, out, at, (value - bias) as u64)
+}
+
+impl<R: Print> Write for Output<'_, '_, R> {
+    // Writes a text, and never fails.
+    fn write_str(&mut self, s: &str) -> fmt::Result {
+        self.bytes(s.as_bytes());
+        Ok(())
+    }
 }

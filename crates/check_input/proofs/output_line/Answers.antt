@@ -17,4 +17,4 @@ outputs h text e =
     }
 
 pub returns : goal.returns
-returns c = outputs _ _ (c.verdict_line_of.ensures ∙ ap verdict_text c.verdict_from.ensures)
+returns c = outputs _ _ (c.of.ensures ∙ ap verdict_text c.verdict_from.ensures)

@@ -17,6 +17,6 @@ returns-then-frequency_in_range c =
       sym c.frequency_in_range.ensures ∙ c.if-frequency_in_range.true,
     )
 
-pub returns : goal.returns
+pub returns-else-frequency_in_range : goal.returns-else-frequency_in_range
 unfolding takes_frequency
-returns c = simp (sym c.frequency_in_range.ensures ∙ c.if-frequency_in_range.false)
+returns-else-frequency_in_range c = search rules

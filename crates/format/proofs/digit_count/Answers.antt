@@ -1,14 +1,7 @@
--- `format::digit_count` meets its contract: what is counted and the places of the rest are together one more than the
--- places of the value. Assumes nothing.
-use native.Mathlib.Omega.{arith}
-use Rattle.format.proofs.Digits.{places_one, places_more, places_least}
+-- `format::digit_count` meets its contract: one more than the highest power of ten that is not above the value. Assumes
+-- nothing.
+use Rattle.format.proofs.Digits.{places_by_power}
 use Rattle.format.proofs.digit_count.Goals as goal
 
-pub overflow_add-count : goal.overflow_add-count
-overflow_add-count c = omega (arith, places_least c.args.value 10 (omega arith) (omega arith))
-
-pub loop-rest-preserved : goal.loop-rest-preserved
-loop-rest-preserved c = omega (arith, places_more c.loop-rest.rest (omega arith))
-
 pub returns : goal.returns
-returns c = omega (arith, places_one c.loop-rest.rest (omega arith))
+returns c = places_by_power c.args.value c.max.result c.ilog10.result c.max.ensures c.ilog10.ensures.power_le c.ilog10.ensures.next_power_gt

@@ -8,8 +8,8 @@ use borrow.Author.Rules.{rules}
 use Rattle.format.proofs.Appended.{added_full, added_store}
 use Rattle.format.proofs.push.Goals as goal
 
-pub returns-then-at-ge-LIMIT : goal.returns-then-at-ge-LIMIT
-returns-then-at-ge-LIMIT c =
+pub returns-then-t-ge-LIMIT : goal.returns-then-t-ge-LIMIT
+returns-then-t-ge-LIMIT c =
     let t = c.args.t in
     let h : length t.bytes ≡ 32 = search rules in
     rw (take_all t.len t.bytes (omega arith)) (sym (added_full t.bytes (c.args.b ∷ []) h))

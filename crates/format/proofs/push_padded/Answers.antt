@@ -8,22 +8,22 @@ use Rattle.format.proofs.Appended.{added_none, added_length, text-length}
 use Rattle.format.proofs.Digits.{padded-empty, padded_added}
 use Rattle.format.proofs.push_padded.Goals as goal
 
-pub loop-left-init : goal.loop-left-init
-loop-left-init c =
+pub loop-position-init : goal.loop-position-init
+loop-position-init c =
     let t = c.args.t in
     (text-length t.bytes t.len (search rules), refl)
 
-pub loop-left-preserved : goal.loop-left-preserved
-loop-left-preserved c =
-    let v = c.loop-left in
+pub loop-position-preserved : goal.loop-position-preserved
+loop-position-preserved c =
+    let v = c.loop-position in
     let e = c.push-text.ensures in (
       rw e (added_length (bytes_of v.text) _),
       v.invariant.1
-          ∙ padded_added (bytes_of v.text) (bytes_of c.push-text.result) v.left c.args.value (omega arith) (e ∙ rw c.digit.ensures),
+          ∙ padded_added (bytes_of v.text) (bytes_of c.push-text.result) v.position c.args.value (omega arith) (e ∙ rw c.digit.ensures),
     )
 
 pub returns : goal.returns
 returns c =
-    let v = c.loop-left in
-    let e : v.left ≡ 0 = omega arith in
+    let v = c.loop-position in
+    let e : v.position ≡ 0 = omega arith in
     sym (v.invariant.1 ∙ rw (e, padded-empty) (added_none (bytes_of v.text) v.invariant.0))

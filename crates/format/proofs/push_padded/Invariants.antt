@@ -7,10 +7,7 @@ use Rattle.format.specs.Text.{padded}
 use Rattle.format.specs.Parts.{text_limit, bytes_of, appended}
 use Rattle.format.proofs.push_padded.Given as goal
 
-abbrev pub invariant-loop-left : goal.invariant-loop-left
-invariant-loop-left l =
+abbrev pub invariant-loop-position : goal.invariant-loop-position
+invariant-loop-position l =
     (length (bytes_of l.text) ≤ text_limit) ×
-    (appended (bytes_of l.initial.text) (padded l.width l.value) ≡ appended (bytes_of l.text) (padded l.left l.value))
-
-abbrev pub decreases-loop-left : goal.decreases-loop-left
-decreases-loop-left l = l.left
+    (appended (bytes_of l.initial.text) (padded l.width l.value) ≡ appended (bytes_of l.text) (padded l.position l.value))

@@ -13,9 +13,9 @@ returns-then-value-bias c =
     let a = c.args in
     c.push.ensures ∙ rw (lt-ltb a.value a.bias c.if-value-bias.true)
 
-pub returns : goal.returns
+pub returns-else-value-bias : goal.returns-else-value-bias
 unfolding sign
-returns c =
+returns-else-value-bias c =
     let a = c.args in
     let t = a.t in
     rw (le-ltb a.value a.bias c.if-value-bias.false)

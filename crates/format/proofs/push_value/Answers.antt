@@ -6,6 +6,4 @@ use Rattle.format.proofs.push_value.Goals as goal
 
 pub returns : goal.returns
 unfolding signed_text
-returns c =
-    c.push_fixed.ensures
-    ∙ rw (c.distance_of.ensures, c.push_sign-signed.ensures, added_join)
+returns c = c.push_fixed.ensures ∙ rw (c.abs_diff.ensures, c.push_sign-signed.ensures, added_join)

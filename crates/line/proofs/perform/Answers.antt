@@ -5,33 +5,29 @@ use Rattle.effect.specs.Effect.{state_after}
 use Rattle.line.proofs.Effects.{written-fits, done, no_room_lem, not_allowed_lem}
 use Rattle.line.proofs.perform.Goals as goal
 
-pub shape_of-out-then-fits : goal.shape_of-out-then-fits
-shape_of-out-then-fits c = c.send_reply-sent.auto.out
+pub returns-in_default : goal.returns-in_default
+returns-in_default c =
+    let a = c.args in record {
+      meets = rw c.refused.ensures
+          (no_room_lem a.waiting a.c.kind a.s _ _
+          (sym c.is_allowed-allowed.ensures ∙ c.if-allowed.true) c.in_default.ensures);
+      written_in_bounds = rw c.refused.ensures (omega arith);
+    }
 
-pub returns-then-fits : goal.returns-then-fits
+pub returns-then-allowed : goal.returns-then-allowed
 unfolding state_after
-returns-then-fits c =
+returns-then-allowed c =
     let a = c.args in
-    let out = c.send_reply-sent.ensures in record {
+    let out = c.in-Some.ensures in record {
       meets = rw (
         c.state_after-next.ensures,
         c.store.ensures.0,
         c.store.ensures.1,
         c.storage_after-p.ensures,
       )
-          (done a.waiting a.c.kind a.s _ _ out
-          (sym c.is_allowed-allowed.ensures ∙ c.if-allowed.true) c.if-fits.true);
-      written_in_bounds = rw c.send_reply-sent.auto.out (written-fits _ out);
-    }
-
-pub returns-then-allowed : goal.returns-then-allowed
-returns-then-allowed c =
-    let sent = c.send_reply-sent in
-    let a = c.args in record {
-      meets = rw c.refused.ensures
-          (no_room_lem a.waiting a.c.kind a.s _ _ sent.ensures
-          (sym c.is_allowed-allowed.ensures ∙ c.if-allowed.true) c.if-fits.false);
-      written_in_bounds = rw c.refused.ensures (omega arith);
+          (done a.waiting a.c.kind a.s _ _
+          (sym c.is_allowed-allowed.ensures ∙ c.if-allowed.true) out);
+      written_in_bounds = rw c.send_reply.auto.out (written-fits _ out);
     }
 
 pub returns : goal.returns

@@ -1,15 +1,12 @@
 -- `line_text::clean` meets its contract: what is kept and what is still to come make the whole. Assumes nothing.
-use Prim.Native.Nat.{◌≤◌, ◌-◌}
+use Prim.Native.Nat.{◌≤◌}
 use mathlib.Core.Path.{◌≡◌}
 use mathlib.Core.List.{◌++◌}
 use lib.ListN.{length, take, drop}
 use Rattle.line_text.specs.Clean.{cleaned}
 use Rattle.line_text.proofs.clean.Given as goal
 
-abbrev pub invariant-loop-i : goal.invariant-loop-i
-invariant-loop-i l =
+abbrev pub invariant-loop-b : goal.invariant-loop-b
+invariant-loop-b l =
     (l.len ≤ 256) × (length l.bytes ≡ 256) ×
-    (take 256 (take l.len l.bytes ++ cleaned (drop l.i l.line)) ≡ take 256 (cleaned l.line))
-
-abbrev pub decreases-loop-i : goal.decreases-loop-i
-decreases-loop-i l = length l.line - l.i
+    (take 256 (take l.len l.bytes ++ cleaned (drop l.b-index l.line)) ≡ take 256 (cleaned l.line))

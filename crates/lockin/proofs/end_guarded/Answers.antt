@@ -4,10 +4,10 @@ use Rattle.lockin.specs.Calls.{guarded}
 use Rattle.lockin.specs.Parts.{result_of}
 use Rattle.lockin.proofs.end_guarded.Goals as goal
 
-pub returns-in-Done : goal.returns-in-Done
+pub returns-in-Ok : goal.returns-in-Ok
 unfolding guarded
-returns-in-Done c = rw c.in-Done.is c.end_line.ensures
+returns-in-Ok c = rw c.in-Ok.is c.end_line.ensures
 
-pub returns-in-Refused : goal.returns-in-Refused
+pub returns-in-Err : goal.returns-in-Err
 unfolding guarded
-returns-in-Refused c = rw (c.tell.ensures, c.in-Refused.is) (silent-meets result_of _ _ _ _ _)
+returns-in-Err c = rw (c.tell.ensures, c.in-Err.is) (silent-meets result_of _ _ _ _ _)

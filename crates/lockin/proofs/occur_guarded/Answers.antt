@@ -5,10 +5,10 @@ use Rattle.event.specs.Event.{event_effect}
 use Rattle.lockin.specs.Calls.{guarded}
 use Rattle.lockin.proofs.occur_guarded.Goals as goal
 
-pub returns-in-Done : goal.returns-in-Done
+pub returns-in-Ok : goal.returns-in-Ok
 unfolding guarded
-returns-in-Done c = rw c.in-Done.is c.occur.ensures
+returns-in-Ok c = rw c.in-Ok.is c.occur.ensures
 
-pub returns-in-Refused : goal.returns-in-Refused
+pub returns-in-Err : goal.returns-in-Err
 unfolding guarded
-returns-in-Refused c = rw c.in-Refused.is (silent-meets event_effect _ _ _ _ [])
+returns-in-Err c = rw c.in-Err.is (silent-meets event_effect _ _ _ _ [])

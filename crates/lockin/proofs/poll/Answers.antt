@@ -1,5 +1,5 @@
 -- `lockin::poll` meets its contract: by 11. Assumes nothing.
-use mathlib.Core.Path.{◌≡◌, sym, ap, ◌∙◌}
+use mathlib.Core.Path.{sym, ap, ◌∙◌}
 use Rattle.outcome.specs.Code.{number_of}
 use Rattle.lockin.specs.Calls.{poll_call}
 use Rattle.lockin.specs.declared.PollResult.{PollResult}

@@ -1,5 +1,5 @@
 -- `lockin::start` meets its contract: 10, then 9. Assumes nothing.
-use mathlib.Core.Path.{◌≡◌, sym, ap, ◌∙◌}
+use mathlib.Core.Path.{sym, ap, ◌∙◌}
 use Rattle.outcome.specs.Code.{number_of}
 use Rattle.module.proofs.Bounds.{port_small, capacity_small}
 use Rattle.lockin.specs.Start.{start_call}

@@ -2,10 +2,10 @@
 use Rattle.lockin.specs.Parts.{GuardedStep}
 use Rattle.lockin.proofs.step_guarded.Goals as goal
 
-pub returns-in-Done : goal.returns-in-Done
+pub returns-in-Ok : goal.returns-in-Ok
 unfolding GuardedStep
-returns-in-Done c = rw c.in-Done.is c.step_of.ensures
+returns-in-Ok c = rw c.in-Ok.is c.step_of.ensures
 
-pub returns-in-Refused : goal.returns-in-Refused
+pub returns-in-Err : goal.returns-in-Err
 unfolding GuardedStep
-returns-in-Refused c = rw c.in-Refused.is
+returns-in-Err c = rw c.in-Err.is

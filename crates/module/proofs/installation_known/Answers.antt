@@ -1,8 +1,12 @@
 -- `module::installation_known` meets its contract. Assumes nothing.
-use mathlib.Core.Path.{refl}
+use Rattle.std.proofs.Common.{rules}
 use Rattle.module.specs.Start.{installation_known}
 use Rattle.module.proofs.installation_known.Goals as goal
 
-pub returns : goal.returns
+pub returns-then-serial-le-SERIAL_MOST : goal.returns-then-serial-le-SERIAL_MOST
 unfolding installation_known
-returns c = refl
+returns-then-serial-le-SERIAL_MOST c = search rules
+
+pub returns-else-serial-le-SERIAL_MOST : goal.returns-else-serial-le-SERIAL_MOST
+unfolding installation_known
+returns-else-serial-le-SERIAL_MOST c = search rules

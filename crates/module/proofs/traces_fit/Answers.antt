@@ -1,8 +1,12 @@
 -- `module::traces_fit` meets its contract. Assumes nothing.
-use mathlib.Core.Path.{refl}
+use Rattle.std.proofs.Common.{rules}
 use Rattle.module.specs.Start.{traces_fit}
 use Rattle.module.proofs.traces_fit.Goals as goal
 
-pub returns : goal.returns
+pub returns-then-least-first : goal.returns-then-least-first
 unfolding traces_fit
-returns c = refl
+returns-then-least-first c = search rules
+
+pub returns-else-least-first : goal.returns-else-least-first
+unfolding traces_fit
+returns-else-least-first c = search rules

@@ -1,19 +1,29 @@
+-- `number::fits` meets its contract. Assumes nothing.
 use borrow.Author.Tests.{le-leb, lt-leb}
 use Rattle.number.specs.Parts.{fits_range}
+use Rattle.number.proofs.Flag.{flag_value}
 use Rattle.number.proofs.fits.Goals as goal
 
-pub returns-then-bias-exact : goal.returns-then-bias-exact
+pub returns-then-low-q : goal.returns-then-low-q
 unfolding fits_range
-returns-then-bias-exact c = rw (c.if-q.true, ← c.one_if-exact.ensures.0, lt-leb _ _ c.if-bias-exact.true)
+returns-then-low-q c =
+    let low = rw (c.from-low.ensures, c.from-bias.ensures, c.from-exact.ensures, flag_value) at c.if-low-q.true in
+    rw (c.if-q.true, c.from-bias.ensures, c.from-high.ensures, le-leb _ _ low)
 
-pub returns-then-q : goal.returns-then-q
+pub returns-else-low-q : goal.returns-else-low-q
 unfolding fits_range
-returns-then-q c = rw (c.if-q.true, ← c.one_if-exact.ensures.0, le-leb _ _ c.if-bias-exact.false)
+returns-else-low-q c =
+    let low = rw (c.from-low.ensures, c.from-bias.ensures, c.from-exact.ensures, flag_value) at c.if-low-q.false in
+    rw (c.if-q.true, c.from-low.ensures, c.from-bias.ensures, c.from-exact.ensures, flag_value, lt-leb _ _ low)
 
-pub returns-then-bias-whole : goal.returns-then-bias-whole
+pub returns-then-low-bias : goal.returns-then-low-bias
 unfolding fits_range
-returns-then-bias-whole c = rw (c.if-q.false, lt-leb _ _ c.if-bias-whole.true)
+returns-then-low-bias c =
+    let low = rw (c.from-low.ensures, c.from-bias.ensures) at c.if-low-bias.true in
+    rw (c.if-q.false, c.from-bias.ensures, c.from-high.ensures, c.from-exact.ensures, flag_value, le-leb _ _ low)
 
-pub returns : goal.returns
+pub returns-else-low-bias : goal.returns-else-low-bias
 unfolding fits_range
-returns c = rw (c.if-q.false, ← c.one_if-exact.ensures.0, le-leb _ _ c.if-bias-whole.false)
+returns-else-low-bias c =
+    let low = rw (c.from-low.ensures, c.from-bias.ensures) at c.if-low-bias.false in
+    rw (c.if-q.false, c.from-low.ensures, c.from-bias.ensures, lt-leb _ _ low)

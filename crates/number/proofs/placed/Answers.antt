@@ -1,15 +1,11 @@
+-- `number::placed` meets its contract. Assumes nothing.
 use Rattle.number.specs.Parts.{placed_in}
-use native.Mathlib.Omega.{arith}
 use Rattle.number.proofs.placed.Goals as goal
-
-pub returns-then-n-bias : goal.returns-then-n-bias
-unfolding placed_in
-returns-then-n-bias c = rw (← c.round_to-n.ensures.0, c.if-q.true)
 
 pub returns-then-q : goal.returns-then-q
 unfolding placed_in
-returns-then-q c = rw (← c.round_to-n.ensures.0, c.if-q.true) (omega arith)
+returns-then-q c = rw (← c.round_to-n.ensures.0, c.if-q.true) (cc)
 
-pub returns : goal.returns
+pub returns-else-q : goal.returns-else-q
 unfolding placed_in
-returns c = rw (← c.round_to-n.ensures.0, c.if-q.false)
+returns-else-q c = rw (← c.round_to-n.ensures.0, c.if-q.false, c.from-bias.ensures)

@@ -2,10 +2,10 @@
 use Rattle.outcome.specs.Answer.{numbered, numbers_of}
 use Rattle.outcome.proofs.numbers_of.Goals as goal
 
-pub returns-in-Passed : goal.returns-in-Passed
+pub returns-in-Ok : goal.returns-in-Ok
 unfolding numbers_of numbered
-returns-in-Passed c = rw c.in-Passed.is
+returns-in-Ok c = rw c.in-Ok.is
 
-pub returns-in-Refused : goal.returns-in-Refused
+pub returns-in-Err : goal.returns-in-Err
 unfolding numbers_of numbered
-returns-in-Refused c = rw (c.code_of.ensures, c.in-Refused.is)
+returns-in-Err c = rw (c.code_of.ensures, c.in-Err.is)

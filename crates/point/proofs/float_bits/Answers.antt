@@ -21,7 +21,7 @@ module _ (c : After-exponent) where
   e = c.exponent.result
 
   fine : is_legal word ≡ true
-  fine = sym c.legal.ensures ∙ c.if-legal.true
+  fine = sym c.legal.ensures ∙ c.if-not-legal.false
 
   bounds : ((0 < a) × (a ≤ 32768)) × (e ≤ 236)
   bounds = omega (arith, magnitude_le word, exponent_le word fine)
@@ -31,7 +31,7 @@ module _ (c : After-exponent) where
 
 pub returns-then-a-eq0 : goal.returns-then-a-eq0
 returns-then-a-eq0 c =
-    sym (no_magnitude c.args.word (sym c.legal.ensures ∙ c.if-legal.true) (sym c.magnitude-a.ensures ∙ c.if-a-eq0.true))
+    sym (no_magnitude c.args.word (sym c.legal.ensures ∙ c.if-not-legal.false) (sym c.magnitude-a.ensures ∙ c.if-a-eq0.true))
 
 pub single-bits-requires : goal.single-bits-requires
 single-bits-requires c =
@@ -52,10 +52,10 @@ returns-then-negative c =
     ∙ with-sign (a at) (e at)
     ∙ ap (λ (n : ℕ). 2147483648 + n) (sym c.single-bits.ensures))
 
-pub returns-then-legal : goal.returns-then-legal
-returns-then-legal c =
-    let at = (goal.at.returns-then-legal c).After-exponent in
+pub returns-else-negative : goal.returns-else-negative
+returns-else-negative c =
+    let at = (goal.at.returns-else-negative c).After-exponent in
     c.single-bits.ensures ∙ sym (sent at false (sym c.if-negative.false ∙ c.negative.ensures))
 
-pub returns : goal.returns
-returns c = sym (no-point c.args.word (sym c.legal.ensures ∙ c.if-legal.false))
+pub returns-then-not-legal : goal.returns-then-not-legal
+returns-then-not-legal c = sym (no-point c.args.word (sym c.legal.ensures ∙ c.if-not-legal.true))

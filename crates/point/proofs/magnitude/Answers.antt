@@ -1,12 +1,12 @@
 -- `point::magnitude` meets its contract. Assumes nothing.
-use mathlib.Core.Path.{sym, ◌∙◌}
+use Rattle.std.proofs.Common.{rules}
 use Rattle.point.specs.Point.{magnitude_of}
 use Rattle.point.proofs.magnitude.Goals as goal
 
 pub returns-then-negative : goal.returns-then-negative
 unfolding magnitude_of
-returns-then-negative c = rw (sym c.negative.ensures ∙ c.if-negative.true)
+returns-then-negative c = search rules
 
-pub returns : goal.returns
+pub returns-else-negative : goal.returns-else-negative
 unfolding magnitude_of
-returns c = rw (sym c.negative.ensures ∙ c.if-negative.false)
+returns-else-negative c = search rules

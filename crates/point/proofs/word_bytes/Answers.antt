@@ -1,7 +1,8 @@
 -- `point::word_bytes` meets its contract. Assumes nothing.
-use mathlib.Core.Path.{sym}
-use Rattle.point.proofs.Bytes.{four_bytes}
+use Rattle.std.proofs.Common.{rules}
+use Rattle.point.specs.Bytes.{little_endian, low_first}
 use Rattle.point.proofs.word_bytes.Goals as goal
 
 pub returns : goal.returns
-returns c = sym (four_bytes c.args.x c.ranges.x.fits)
+unfolding little_endian low_first
+returns c = search rules

@@ -1,20 +1,19 @@
--- `queue::block_ends_none` meets its contract: the test so far is exact. Assumes nothing.
-use mathlib.Core.Path.{◌≡◌, refl}
-use native.Mathlib.Omega.{arith}
-use Rattle.queue.proofs.Waiting.{none_more}
+-- `queue::block_ends_none` meets its contract: the test so far is that of the bytes so far. Assumes nothing.
+use Rattle.std.proofs.Common.{◌≡◌, refl, ◌∙◌, ℕ, Bool, true, not, ◌&&◌, List, [], ◌∷◌, ◌++◌, rules}
+use mathlib.Core.Bool.{and-true}
+use Rattle.std.proofs.lemmas.Iterator.{YieldsList-from_slice}
+use Rattle.std.proofs.lemmas.Fn.{fold_over, fronts}
+use Rattle.queue.specs.Queue.{ends_line, no_end}
+use Rattle.queue.proofs.Waiting.{no-end_append}
 use Rattle.queue.proofs.block_ends_none.Goals as goal
 
-pub loop-k-init : goal.loop-k-init
-loop-k-init c = (omega arith, (λ e k h. absurd (omega arith), λ clear. refl))
-
-pub loop-k-preserved : goal.loop-k-preserved
-loop-k-preserved c =
-    let a = c.args in
-    let v = c.loop-k in
-    let ends = c.ends_line in (
-      omega arith,
-      none_more a.port a.bytes.now a.at v.k v.none ends.result v.invariant.1 ends.ensures,
-    )
+one_more : (port : ℕ) (ys : List ℕ) (none : Bool) (x : ℕ) → none ≡ no_end port ys → none && not (ends_line port x) ≡ no_end port (ys ++ (x ∷ []))
+unfolding no_end
+one_more port ys none x k = rw (k, no-end_append port ys (x ∷ []), and-true (not (ends_line port x)))
 
 pub returns : goal.returns
-returns c = let e : c.loop-k.k ≡ 16 = omega arith in rw e at c.loop-k.invariant.1
+unfolding no_end
+returns c =
+    fold_over fronts (λ y. y.now) _ (λ ys none. none ≡ no_end c.args.port ys) _
+    (λ ys none x more f k called. ((search rules) ∙ one_more c.args.port ys none x.now k, search rules))
+    _ c.args.block.now true c.fold.result (YieldsList-from_slice c.args.block.now cc).runs refl c.fold.ensures.ran

@@ -8,7 +8,7 @@ pub returns-in_default : goal.returns-in_default
 returns-in_default c =
     let a = c.args in
     rw (none_replied a.kind a.s a.waiting a.one.now a.two.now (opened c.in_default.in_default-own.keys2))
-    (none-sent a.out.now c.nothing.ensures)
+    (none-sent a.out.now)
 
 pub returns : goal.returns
 unfolding reply_of

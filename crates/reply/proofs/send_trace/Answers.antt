@@ -8,6 +8,6 @@ pub returns-then-t-eq1 : goal.returns-then-t-eq1
 unfolding trace_reply
 returns-then-t-eq1 c = rw (eq-eqb _ _ c.if-t-eq1.true, ← c.point_index-place.ensures) c.send_points.ensures
 
-pub returns : goal.returns
+pub returns-else-t-eq1 : goal.returns-else-t-eq1
 unfolding trace_reply
-returns c = rw (ne_eqb _ _ c.if-t-eq1.false, ← c.point_index-place.ensures) c.send_points-2.ensures
+returns-else-t-eq1 c = rw (ne_eqb _ _ c.if-t-eq1.false, ← c.point_index-place.ensures) c.send_points-else-t-eq1.ensures

@@ -9,10 +9,10 @@ use Rattle.script.proofs.check_commands.Goals as goal
 pub loop-refusal-init : goal.loop-refusal-init
 loop-refusal-init c = record { inside = omega arith; report = refl; past = refl; counted = omega arith }
 
-pub returns-in-Refused : goal.returns-in-Refused
-returns-in-Refused c =
+pub returns-in-Err : goal.returns-in-Err
+returns-in-Err c =
     refused c.loop-refusal.invariant c.end_of-e.result c.end_of-e.ensures.value
-    c.parse-p.result c.parse-p.ensures _ _ (sym c.text_refusal-outcome.ensures ∙ c.in-Refused.is)
+    c.parse-p.result c.parse-p.ensures _ _ (sym c.text_refusal-outcome.ensures ∙ c.in-Err.is)
 
 pub returns-then-e-text : goal.returns-then-e-text
 returns-then-e-text c =

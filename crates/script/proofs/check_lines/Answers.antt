@@ -14,11 +14,11 @@ returns-then-e-a-gt-LINE c =
 pub check_line-checked-requires : goal.check_line-checked-requires
 check_line-checked-requires c = omega (arith, part_length c.args.script.now c.loop-a.a c.end_of-e.result)
 
-pub returns-in-Refused : goal.returns-in-Refused
-returns-in-Refused c =
+pub returns-in-Err : goal.returns-in-Err
+returns-in-Err c =
     named c.loop-a.invariant c.loop-a-test.true c.end_of-e.result c.end_of-e.ensures.value
     c.if-e-a-gt-LINE.false c.check_line-checked.result c.check_line-checked.ensures _ _
-    c.in-Refused.is
+    c.in-Err.is
 
 pub loop-a-preserved : goal.loop-a-preserved
 loop-a-preserved c =

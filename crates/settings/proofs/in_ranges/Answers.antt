@@ -8,15 +8,13 @@ use Rattle.settings.proofs.in_ranges.Goals as goal
 
 pub loop-entry-init : goal.loop-entry-init
 unfolding every
-loop-entry-init c = (omega arith, refl)
+loop-entry-init c = refl
 
 pub loop-entry-preserved : goal.loop-entry-preserved
-loop-entry-preserved c = (
-  omega arith,
-  rw c.loop-entry.invariant.1
-      (range_more c.args.s.values _ _
-      c.leasts-least.ensures c.mosts-most.ensures c.loop-entry.entry c.loop-entry-test.true),
-)
+loop-entry-preserved c =
+    rw c.loop-entry.invariant
+    (range_more c.args.s.values _ _
+    c.leasts-least.ensures c.mosts-most.ensures c.loop-entry.entry c.loop-entry-test.true)
 
 pub returns : goal.returns
-returns c = let e : c.loop-entry.entry ≡ entries = omega arith in c.loop-entry.invariant.1 ∙ rw e
+returns c = let e : c.loop-entry.entry ≡ entries = omega arith in c.loop-entry.invariant ∙ rw e

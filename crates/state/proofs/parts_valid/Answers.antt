@@ -1,13 +1,12 @@
 -- `state::parts_valid` meets its contract. Assumes nothing.
+use Rattle.std.proofs.Common.{rules}
 use Rattle.state.specs.Valid.{parts_valid}
 use Rattle.state.proofs.parts_valid.Goals as goal
 
-pub returns : goal.returns
+pub returns-then-stored : goal.returns-then-stored
 unfolding parts_valid
-returns c =
-    rw (
-      c.is_valid-stored.ensures,
-      c.value_of-end.ensures,
-      c.are_valid.ensures,
-      c.bits_valid.ensures,
-    )
+returns-then-stored c = search rules
+
+pub returns-else-stored : goal.returns-else-stored
+unfolding parts_valid
+returns-else-stored c = search rules

@@ -1,12 +1,12 @@
 -- `state::store` meets its contract. Assumes nothing.
-use mathlib.Core.Path.{refl}
+use Rattle.std.proofs.Common.{rules}
 use Rattle.state.specs.Storing.{stored_in}
 use Rattle.state.proofs.store.Goals as goal
 
-pub returns-then-stores : goal.returns-then-stores
+pub returns-then-p : goal.returns-then-p
 unfolding stored_in
-returns-then-stores c = rw c.if-stores.true (c.put_pair.ensures.one_after, c.put_pair.ensures.two_after)
+returns-then-p c = search rules
 
-pub returns-else-stores : goal.returns-else-stores
+pub returns-else-p : goal.returns-else-p
 unfolding stored_in
-returns-else-stores c = rw c.if-stores.false (refl, refl)
+returns-else-p c = search rules

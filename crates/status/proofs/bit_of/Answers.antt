@@ -9,5 +9,5 @@ pub returns-then-bit-lt8 : goal.returns-then-bit-lt8
 unfolding bit_of
 returns-then-bit-lt8 c = refl
 
-pub returns : goal.returns
-returns c = sym (past c.args.x c.args.bit (search rules) (search rules))
+pub returns-else-bit-lt8 : goal.returns-else-bit-lt8
+returns-else-bit-lt8 c = sym (past c.args.x c.args.bit (search rules) (search rules))

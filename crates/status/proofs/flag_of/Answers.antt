@@ -1,13 +1,18 @@
 -- `status::flag_of` meets its contract: the weight of a bit below 8 fits. Assumes nothing.
+use Prim.Native.Nat.{ℕ, ◌*◌, ◌%◌, ◌^◌, ◌<◌}
+use native.Mathlib.Omega.{arith}
+use mathlib.Core.Bool.{Bool, true, false}
+use mathlib.Core.Path.{◌≡◌}
+use mir.Val.{bool_byte}
 use borrow.Author.Rules.{rules}
 use Rattle.status.specs.Bits.{flag}
 use Rattle.status.proofs.Bits.{weight-fits}
 use Rattle.status.proofs.flag_of.Goals as goal
 
-pub returns-then-test : goal.returns-then-test
+shifted : (test : Bool) (i : ℕ) → i < 8 → bool_byte test * 2 ^ i % 256 ≡ flag test i
 unfolding flag
-returns-then-test c = rw c.if-test.true (weight-fits c.args.bit (search rules))
+shifted true i h = weight-fits i h
+shifted false i h = omega arith
 
 pub returns : goal.returns
-unfolding flag
-returns c = rw c.if-test.false
+returns c = rw c.from.ensures (shifted c.args.test c.args.bit (search rules))

@@ -1,12 +1,12 @@
 -- `status::may_raise` meets its contract. Assumes nothing.
-use mathlib.Core.Path.{sym, ◌∙◌}
+use Rattle.std.proofs.Common.{rules}
 use Rattle.status.specs.Status.{may_raise}
 use Rattle.status.proofs.may_raise.Goals as goal
 
 pub returns-then-only_of : goal.returns-then-only_of
 unfolding may_raise
-returns-then-only_of c = rw (sym c.only_of.ensures ∙ c.if-only_of.true) c.only_of-then-only_of.ensures
+returns-then-only_of c = search rules
 
-pub returns : goal.returns
+pub returns-else-only_of : goal.returns-else-only_of
 unfolding may_raise
-returns c = rw (sym c.only_of.ensures ∙ c.if-only_of.false)
+returns-else-only_of c = search rules

@@ -13,6 +13,6 @@ pub returns-then-bit-lt8 : goal.returns-then-bit-lt8
 unfolding without_bit
 returns-then-bit-lt8 c = rw c.bit_of.ensures (omega (arith, weight_le c.args.x c.args.bit))
 
-pub returns : goal.returns
+pub returns-else-bit-lt8 : goal.returns-else-bit-lt8
 unfolding without_bit
-returns c = rw (past c.args.x c.args.bit (search rules) (search rules)) (omega arith)
+returns-else-bit-lt8 c = rw (past c.args.x c.args.bit (search rules) (search rules)) (omega arith)

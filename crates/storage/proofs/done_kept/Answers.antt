@@ -1,13 +1,16 @@
 -- `storage::done_kept` meets its contract. Assumes nothing.
-use mathlib.Core.Path.{sym, ◌∙◌}
+use Rattle.std.proofs.Common.{rules}
 use Rattle.storage.specs.Storage.{done_kept}
 use Rattle.storage.proofs.done_kept.Goals as goal
 
-pub returns-then-full_in_one_shot : goal.returns-then-full_in_one_shot
+pub returns-then-is_done : goal.returns-then-is_done
 unfolding done_kept
-returns-then-full_in_one_shot c =
-    rw (c.is_done-done.ensures, sym c.full_in_one_shot.ensures ∙ c.if-full_in_one_shot.true)
+returns-then-is_done c = search rules
 
-pub returns : goal.returns
+pub returns-else-is_done : goal.returns-else-is_done
 unfolding done_kept
-returns c = rw (c.is_done-done.ensures, sym c.full_in_one_shot.ensures ∙ c.if-full_in_one_shot.false)
+returns-else-is_done c = search rules
+
+pub returns-else-full_in_one_shot : goal.returns-else-full_in_one_shot
+unfolding done_kept
+returns-else-full_in_one_shot c = search rules

@@ -1,7 +1,8 @@
 -- `storage::is_done` meets its contract. Assumes nothing.
+use Rattle.std.proofs.Common.{rules}
 use Rattle.storage.specs.Storage.{is_done}
 use Rattle.storage.proofs.is_done.Goals as goal
 
 pub returns : goal.returns
 unfolding is_done
-returns c = rw c.number_of.ensures
+returns c = search rules

@@ -1,12 +1,12 @@
 -- `storage::paused` meets its contract. Assumes nothing.
-use mathlib.Core.Path.{sym, ◌∙◌}
+use Rattle.std.proofs.Common.{rules}
 use Rattle.storage.specs.Storage.{paused_of}
 use Rattle.storage.proofs.paused.Goals as goal
 
 pub returns-then-is_running : goal.returns-then-is_running
 unfolding paused_of
-returns-then-is_running c = rw (sym c.is_running.ensures ∙ c.if-is_running.true)
+returns-then-is_running c = search rules
 
-pub returns : goal.returns
+pub returns-else-is_running : goal.returns-else-is_running
 unfolding paused_of
-returns c = rw (sym c.is_running.ensures ∙ c.if-is_running.false)
+returns-else-is_running c = search rules

@@ -1,12 +1,12 @@
 -- `storage::readied` meets its contract. Assumes nothing.
-use borrow.Author.Tests.{eq-eqb, ne_eqb}
+use Rattle.std.proofs.Common.{rules}
 use Rattle.storage.specs.Storage.{readied_of}
 use Rattle.storage.proofs.readied.Goals as goal
 
 pub returns-then-by-eq-TRIGGER_STARTS : goal.returns-then-by-eq-TRIGGER_STARTS
 unfolding readied_of
-returns-then-by-eq-TRIGGER_STARTS c = rw (eq-eqb _ _ c.if-by-eq-TRIGGER_STARTS.true) c.started.ensures
+returns-then-by-eq-TRIGGER_STARTS c = search rules
 
-pub returns : goal.returns
+pub returns-else-by-eq-TRIGGER_STARTS : goal.returns-else-by-eq-TRIGGER_STARTS
 unfolding readied_of
-returns c = rw (ne_eqb _ _ c.if-by-eq-TRIGGER_STARTS.false)
+returns-else-by-eq-TRIGGER_STARTS c = search rules

@@ -1,12 +1,12 @@
 -- `storage::reset_kept` meets its contract. Assumes nothing.
-use mathlib.Core.Path.{sym, ◌∙◌}
+use Rattle.std.proofs.Common.{rules}
 use Rattle.storage.specs.Storage.{reset_kept}
 use Rattle.storage.proofs.reset_kept.Goals as goal
 
-pub returns-then-is_reset : goal.returns-then-is_reset
+pub returns-then-not-is_reset : goal.returns-then-not-is_reset
 unfolding reset_kept
-returns-then-is_reset c = rw (sym c.is_reset.ensures ∙ c.if-is_reset.true)
+returns-then-not-is_reset c = search rules
 
-pub returns : goal.returns
+pub returns-else-not-is_reset : goal.returns-else-not-is_reset
 unfolding reset_kept
-returns c = rw (sym c.is_reset.ensures ∙ c.if-is_reset.false)
+returns-else-not-is_reset c = search rules

@@ -1,12 +1,12 @@
 -- `storage::started` meets its contract. Assumes nothing.
+use Rattle.std.proofs.Common.{rules}
 use Rattle.storage.specs.Storage.{started_of}
 use Rattle.storage.proofs.started.Goals as goal
 
-pub returns-then-is_reset-is_paused : goal.returns-then-is_reset-is_paused
+pub returns-then-is_paused : goal.returns-then-is_paused
 unfolding started_of
-returns-then-is_reset-is_paused c =
-    let h = rw (c.is_reset.ensures, c.is_paused.ensures) at c.if-is_reset-is_paused.true in rw h
+returns-then-is_paused c = search rules
 
-pub returns : goal.returns
+pub returns-else-is_paused : goal.returns-else-is_paused
 unfolding started_of
-returns c = let h = rw (c.is_reset.ensures, c.is_paused.ensures) at c.if-is_reset-is_paused.false in rw h
+returns-else-is_paused c = search rules

@@ -15,7 +15,7 @@ pub loop-preserved : goal.loop-preserved
 loop-preserved g c = (
   search rules,
   search rules,
-  read_on c.loop.invariant.2 (record { bytes = _; stored = c.store_bytes-input.ensures }),
+  read_on c.loop.invariant.2 (record { bytes = _; stored = c.take_bytes.ensures }),
 )
 
 pub returns : goal.returns

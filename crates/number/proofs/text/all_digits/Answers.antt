@@ -1,22 +1,14 @@
--- `number::all_digits` meets its contract: what is left is all digits where the whole is. Assumes nothing.
-use mathlib.Core.Path.{refl, sym, ◌∙◌}
-use native.Mathlib.Omega.{arith}
-use Rattle.number.proofs.Scan.{digits_low, digits-high, digits_more, digits-end}
+-- `number::all_digits` meets its contract. Assumes nothing.
+use mathlib.Core.Path.{◌∙◌}
+use Rattle.std.proofs.Common.{rules, tests}
+use Rattle.std.proofs.lemmas.Iterator.{YieldsList-from_slice}
+use Rattle.std.proofs.lemmas.Iterator.Search.{all_from_yields_List}
+use Rattle.number.specs.Number.{is_digit}
+use Rattle.number.proofs.Scan.{digits_all}
 use Rattle.number.proofs.text.all_digits.Goals as goal
 
-pub loop-i-init : goal.loop-i-init
-loop-i-init c = (omega arith, refl)
-
-pub returns-then-b-lt48 : goal.returns-then-b-lt48
-returns-then-b-lt48 c = sym (c.loop-i.invariant.1 ∙ digits_low _ _ c.loop-i-test.true c.if-b-lt48.true)
-
-pub returns-then-b-gt57 : goal.returns-then-b-gt57
-returns-then-b-gt57 c =
-    sym (c.loop-i.invariant.1 ∙ digits-high _ _ c.loop-i-test.true c.if-b-lt48.false c.if-b-gt57.true)
-
-pub loop-i-preserved : goal.loop-i-preserved
-loop-i-preserved c =
-    (omega arith, c.loop-i.invariant.1 ∙ digits_more _ _ c.loop-i-test.true c.if-b-lt48.false c.if-b-gt57.false)
-
 pub returns : goal.returns
-returns c = sym (c.loop-i.invariant.1 ∙ digits-end _ _ c.loop-i-test.false)
+returns c =
+    let s = c.args.s.now in
+    all_from_yields_List is_digit _ _ c.all.result c.all.ensures.ran (YieldsList-from_slice s (cc)) (λ x b q k. search (rules, tests))
+    ∙ digits_all s

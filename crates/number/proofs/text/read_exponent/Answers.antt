@@ -1,29 +1,29 @@
 -- `number::read_exponent` meets its contract. Assumes nothing.
-use Rattle.split.proofs.Span.{rest_from}
-use Rattle.number.proofs.Parsing.{exponent-none, exponent-minus, exponent-plus, exponent-plain, lowered_bounded, raised_bounded}
-use mathlib.Core.Path.{◌∙◌}
+use mathlib.Core.Path.{◌≡◌, refl, sym, ◌∙◌}
+use mathlib.Core.Bool.{true, false}
+use native.Mathlib.Omega.{arith}
+use Rattle.std.specs.Prelude.{Some, None}
+use Rattle.number.specs.Number.{minus, begins, unsigned}
+use Rattle.number.specs.TextParts.{short_of}
+use Rattle.number.proofs.Parsing.{exponent_is}
 use Rattle.number.proofs.text.read_exponent.Goals as goal
 
-pub returns-then-x-lt1 : goal.returns-then-x-lt1
-returns-then-x-lt1 c = (exponent-none c.args.x.now c.if-x-lt1.true, tt)
+pub returns-in_err-n : goal.returns-in_err-n
+returns-in_err-n c =
+    let s : short_of (unsigned c.args.x.now) ≡ None =
+    rw (← c.split_sign-negative.ensures.1, ← c.short_number.ensures.0) c.in_err-n.was in
+    rw (c.from_residual.ensures, exponent_is, s) (refl, tt)
 
-pub returns-then-b-eq45 : goal.returns-then-b-eq45
-returns-then-b-eq45 c = (
-  c.lowered.ensures
-      ∙ rw (c.short_number.ensures.0, rest_from c.args.x.now 1) (exponent-minus c.args.x.now c.if-x-lt1.false c.if-b-eq45.true),
-  rw c.lowered.ensures (lowered_bounded c.short_number.result c.short_number.ensures.1),
-)
-
-pub returns-then-b-eq43 : goal.returns-then-b-eq43
-returns-then-b-eq43 c = (
-  c.raised.ensures
-      ∙ rw (c.short_number-then-b-eq43.ensures.0, rest_from c.args.x.now 1) (exponent-plus c.args.x.now c.if-x-lt1.false c.if-b-eq45.false c.if-b-eq43.true),
-  rw c.raised.ensures (raised_bounded c.short_number-then-b-eq43.result c.short_number-then-b-eq43.ensures.1),
-)
+pub returns-then-negative : goal.returns-then-negative
+returns-then-negative c =
+    let s : short_of (unsigned c.args.x.now) ≡ Some c.in_ok-n.n =
+    rw (← c.split_sign-negative.ensures.1, ← c.short_number.ensures.0) c.in_ok-n.was in
+    let m : begins minus c.args.x.now ≡ true = sym c.split_sign-negative.ensures.0 ∙ c.if-negative.true in
+    (sym (exponent_is c.args.x.now ∙ rw (s, m)), omega arith)
 
 pub returns : goal.returns
-returns c = (
-  c.raised-2.ensures
-      ∙ rw c.short_number-2.ensures.0 (exponent-plain c.args.x.now c.if-x-lt1.false c.if-b-eq45.false c.if-b-eq43.false),
-  rw c.raised-2.ensures (raised_bounded c.short_number-2.result c.short_number-2.ensures.1),
-)
+returns c =
+    let s : short_of (unsigned c.args.x.now) ≡ Some c.in_ok-n.n =
+    rw (← c.split_sign-negative.ensures.1, ← c.short_number.ensures.0) c.in_ok-n.was in
+    let m : begins minus c.args.x.now ≡ false = sym c.split_sign-negative.ensures.0 ∙ c.if-negative.false in
+    (sym (exponent_is c.args.x.now ∙ rw (s, m)), rw c.in_ok-n.was at c.short_number.ensures.1)

@@ -11,32 +11,27 @@ use Rattle.number.proofs.text.whole_part.Goals as goal
 
 pub loop-index-init : goal.loop-index-init
 unfolding digits_value
-loop-index-init c = (omega arith, refl)
+loop-index-init c = refl
 
-pub digit_at-b-requires : goal.digit_at-b-requires
-digit_at-b-requires c = tt
-
-pub overflow_sub-b : goal.overflow_sub-b
-overflow_sub-b c =
+pub overflow_sub-digit_at : goal.overflow_sub-digit_at
+overflow_sub-digit_at c =
     let a = c.args in
-    omega (arith, c.digit_at-b.ensures, digit_range (a.front.now ++ a.back.now) c.requires c.loop-index.index)
+    omega (arith, c.digit_at.ensures, digit_range (a.front.now ++ a.back.now) c.requires c.loop-index.index)
 
 pub grown-value-requires : goal.grown-value-requires
 grown-value-requires c =
     let a = c.args in (
-      rw c.loop-index.invariant.1 (min-le_left _ _),
-      omega (arith, c.digit_at-b.ensures, digit_range (a.front.now ++ a.back.now) c.requires c.loop-index.index),
+      rw c.loop-index.invariant (min-le_left _ _),
+      omega (arith, c.digit_at.ensures, digit_range (a.front.now ++ a.back.now) c.requires c.loop-index.index),
     )
 
 pub loop-index-preserved : goal.loop-index-preserved
 loop-index-preserved c =
-    let a = c.args in (
-      omega arith,
-      c.grown-value.ensures
-          ∙ grow (a.front.now ++ a.back.now) c.loop-index.index _ _ c.loop-index.invariant.1 (ap (λ b. b - 48) c.digit_at-b.ensures),
-    )
+    let a = c.args in
+    c.grown-value.ensures
+    ∙ grow (a.front.now ++ a.back.now) c.loop-index.index _ _ c.loop-index.invariant (ap (λ b. b - 48) c.digit_at.ensures)
 
 pub returns : goal.returns
 returns c =
     let e : c.loop-index.index ≡ c.args.kept = omega arith in
-    c.loop-index.invariant.1 ∙ rw e
+    c.loop-index.invariant ∙ rw e

@@ -9,19 +9,16 @@ use Rattle.format.proofs.Appended.{added_none, text-length}
 use Rattle.reply.proofs.Texts.{added_more}
 use Rattle.reply.proofs.text.push_all.Goals as goal
 
-pub loop-i-init : goal.loop-i-init
-loop-i-init c =
-    let t = c.args.t in
-    (omega arith, sym (added_none (bytes_of t) (text-length t.bytes t.len (search rules))))
+pub loop-b-init : goal.loop-b-init
+loop-b-init c =
+    let t = c.args.t in sym (added_none (bytes_of t) (text-length t.bytes t.len (search rules)))
 
-pub loop-i-preserved : goal.loop-i-preserved
-loop-i-preserved c =
-    let v = c.loop-i in
-    let bytes = c.args.bytes.now in
-    (omega arith, c.push-text.ensures ∙ rw v.invariant.1 (added_more _ bytes v.i (omega arith)))
+pub loop-b-preserved : goal.loop-b-preserved
+loop-b-preserved c =
+    let v = c.loop-b in
+    let bytes = c.args.bytes.now in c.push-text.ensures ∙ rw v.invariant (added_more _ bytes v.b-index (omega arith))
 
 pub returns : goal.returns
 returns c =
-    let v = c.loop-i in
-    let bytes = c.args.bytes.now in
-    v.invariant.1 ∙ rw (take_all v.i bytes (omega arith))
+    let v = c.loop-b in
+    let bytes = c.args.bytes.now in v.invariant ∙ rw (take_all v.b-index bytes (omega arith))

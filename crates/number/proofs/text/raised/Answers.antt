@@ -1,5 +1,0 @@
--- `number::raised` meets its contract. Assumes nothing.
-use Rattle.number.proofs.text.raised.Goals as goal
-
-pub returns-in-Of : goal.returns-in-Of
-returns-in-Of c = rw c.in-Of.is
