@@ -63,7 +63,7 @@ impl Bench {
     }
 
     // Hands bytes to the module. Where a run stops, what is left is a run of its own; none comes behind a run that
-    // takes nothing.
+    // takes nothing. No `for`: each run takes another number of bytes.
     fn run_chunk(&mut self, rt: &impl Print, chunk: &[u8]) {
         let mut rest = chunk;
         while !rest.is_empty() {

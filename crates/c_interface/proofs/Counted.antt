@@ -9,6 +9,7 @@ use lib.ListN.{length}
 use borrow.Author.Tests.{ltb-false}
 use Rattle.std.specs.Prelude.{Ok, Err}
 use Rattle.split.specs.Divide.{on_head, parts}
+use Rattle.std.proofs.Common.{Ok, Err}
 use Rattle.outcome.specs.declared.Refusal.TheVariants.{LongScriptLine, BadTraces}
 use Rattle.outcome.specs.Code.{Outcome}
 use Rattle.outcome.specs.Answer.{Answer, refused_at}
@@ -22,9 +23,8 @@ use Rattle.extreme_courses.specs.Extremes.{before_line, text_refusal, text_after
 use Rattle.extreme_courses.specs.declared.Extremes.{Extremes}
 use Rattle.script.specs.Check.{answer_at, texts_answer, line_too_long, line_answer, line_after, without_last, lines_of, check_of}
 use Rattle.script.specs.Check.{Finding, fine, no_command, stop, found_by, finding, verdict_of}
-use Rattle.script.proofs.Parts.{parts-length}
-use Rattle.verdict.specs.declared.Verdict.{Verdict}
-use Rattle.verdict.specs.declared.Verdict.TheVariants.{Fine, No}
+use Rattle.split.proofs.Counted.{parts-length}
+use Rattle.verdict.specs.Verdict.{Verdict, passes, objected_at}
 use Rattle.verdict.specs.PackedNumber.{line_most, place_most}
 use Rattle.line_text.specs.Clean.{line_limit}
 
@@ -115,8 +115,8 @@ lines_fit model (l ∷ ls) b =
 
 -- a verdict whose line and place can be told
 abbrev pub Fits : Verdict → Type 0
-Fits Fine = Unit {0}
-Fits (No line place r) = (line ≤ line_most) × (place ≤ place_most)
+Fits (Ok u) = Unit {0}
+Fits (Err o) = (o.line ≤ line_most) × (o.place ≤ place_most)
 
 verdict-fits : (lines : ℕ) (v : Finding) → lines ≤ line_most → FoundFits lines v → Fits (verdict_of v)
 verdict-fits lines fine h f = tt
@@ -126,7 +126,8 @@ verdict-fits lines (stop i place r) h f = (omega (arith, f.0), f.1)
 pub check_fits : (model : Model) (script : List ℕ) → length script < 2 ^ 40 → Fits (check_of model script)
 unfolding check_of
 check_fits model script h = by (model_fits model) where
-  by : (t : Bool) → Fits (cond t (verdict_of (finding model (lines_of script) start_extremes)) (No 0 0 BadTraces))
+  by : (t : Bool)
+      → Fits (cond t (verdict_of (finding model (lines_of script) start_extremes)) (objected_at 0 0 BadTraces))
   by true =
       verdict-fits (length (lines_of script)) (finding model (lines_of script) start_extremes)
       (omega (arith, lines_length script)) (lines_fit model (lines_of script) start_extremes)

@@ -5,13 +5,13 @@ use mathlib.Core.List.{List}
 use native.Mathlib.Omega.{arith}
 use lib.Dec.{leb, ltb}
 use borrow.Author.Tests.{leb-true, ltb-true}
+use Rattle.std.proofs.Common.{Ok, Err}
 use Rattle.outcome.specs.Code.{code_of}
 use Rattle.outcome.specs.declared.Refusal.{Refusal}
 use Rattle.outcome.proofs.Every.{refusal_rule, same_refusal}
 use Rattle.extreme_courses.specs.Model.{model_of}
 use Rattle.script.specs.Check.{check_of}
-use Rattle.verdict.specs.declared.Verdict.{Verdict}
-use Rattle.verdict.specs.declared.Verdict.TheVariants.{Fine, No}
+use Rattle.verdict.specs.Verdict.{Verdict, passes, objected_at}
 use Rattle.verdict.specs.PackedNumber.{line_most, place_most, packed, packed_number, line_read, place_read, refusal_read}
 use Rattle.c_interface.specs.Read.{ReadsAs, Read}
 use Rattle.c_interface.proofs.Counted.{Fits, check_fits}
@@ -37,17 +37,17 @@ module _ (line place number : ℕ) (h : line ≤ line_most) (g : place ≤ place
   refusal_read_lem : refusal_read (packed line place number) ≡ number
   refusal_read_lem = omega arith
 
-zero-fine : (v : Verdict) → packed_number v ≡ 0 → v ≡ Fine
+zero-fine : (v : Verdict) → packed_number v ≡ 0 → v ≡ passes
 unfolding packed_number
-zero-fine Fine e = refl
-zero-fine (No line place r) e = absurd (omega (arith, (numbered r).0))
+zero-fine (Ok u) e = refl
+zero-fine (Err o) e = absurd (omega (arith, (numbered o.refusal).0))
 
-fine-zero : (v : Verdict) → v ≡ Fine → packed_number v ≡ 0
+fine-zero : (v : Verdict) → v ≡ passes → packed_number v ≡ 0
 unfolding packed_number
 fine-zero v e = rw e
 
 reads : (line place : ℕ) (r : Refusal) → line ≤ line_most → place ≤ place_most →
-    ReadsAs (packed_number (No line place r)) line place r
+    ReadsAs (packed_number (objected_at line place r)) line place r
 unfolding packed_number
 reads line place r h g =
     let f = (numbered r).1 in
@@ -59,19 +59,19 @@ reads line place r h g =
     }
 
 module _ (v : Verdict) (line place : ℕ) (r : Refusal) where
-  report : Fits v → v ≡ No line place r → ReadsAs (packed_number v) line place r
-  report fits e = rw e (let f : Fits (No line place r) = rw e at fits in reads line place r f.0 f.1)
+  report : Fits v → v ≡ objected_at line place r → ReadsAs (packed_number v) line place r
+  report fits e = rw e (let f : Fits (objected_at line place r) = rw e at fits in reads line place r f.0 f.1)
 
-  back : Fits v → ReadsAs (packed_number v) line place r → v ≡ No line place r
+  back : Fits v → ReadsAs (packed_number v) line place r → v ≡ objected_at line place r
   back = by v where
-    by : (v : Verdict) → Fits v → ReadsAs (packed_number v) line place r → v ≡ No line place r
-    by Fine f e =
+    by : (v : Verdict) → Fits v → ReadsAs (packed_number v) line place r → v ≡ objected_at line place r
+    by (Ok u) f e =
         let z : 0 ≡ (code_of r).number = unfold packed_number in e.by_number in absurd (omega (arith, (numbered r).0))
-    by (No l p s) f e =
-        let k = reads l p s f.0 f.1 in
-        let a : l ≡ line = cc in
-        let b : p ≡ place = cc in
-        let c : s ≡ r = same_refusal s r (cc) in
+    by (Err o) f e =
+        let k = reads o.line o.place o.refusal f.0 f.1 in
+        let a : o.line ≡ line = cc in
+        let b : o.place ≡ place = cc in
+        let c : o.refusal ≡ r = same_refusal o.refusal r (cc) in
         cc
 
 pub read : (capacity : ℕ) (script : List ℕ) → Read capacity script

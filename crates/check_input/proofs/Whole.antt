@@ -15,8 +15,7 @@ use Rattle.settings.specs.Limits.{capacity_fits}
 use Rattle.extreme_courses.specs.Model.{model_of}
 use Rattle.extreme_courses.specs.Extremes.{start_extremes}
 use Rattle.script.specs.Check.{finding, verdict_of, lines_of, check_of}
-use Rattle.verdict.specs.declared.Verdict.{Verdict}
-use Rattle.verdict.specs.declared.Verdict.TheVariants.{No}
+use Rattle.verdict.specs.Verdict.{Verdict, objected_at}
 use Rattle.check_input.specs.Input.{script_limit, capacity_of, limited_check, input_verdict}
 use Rattle.check_input.specs.Bytes.{line_feed, Memory, memory, start_input, capacity_after, line_one_after}
 use Rattle.check_input.specs.Bytes.{script_after, after_byte, after_bytes}
@@ -142,8 +141,9 @@ enough c n script h = by (leb (length script) n) refl
         finds : List ℕ → Verdict
         finds lines = verdict_of (finding (model_of c) (lines_of lines) start_extremes)
 
-        either : (t : Bool) → cond t (No 0 0 LongScriptLine) (cond t (finds (take n script)) (No 0 0 BadTraces))
-            ≡ cond t (No 0 0 LongScriptLine) (cond t (finds script) (No 0 0 BadTraces))
+        either : (t : Bool) →
+            cond t (objected_at 0 0 LongScriptLine) (cond t (finds (take n script)) (objected_at 0 0 BadTraces))
+            ≡ cond t (objected_at 0 0 LongScriptLine) (cond t (finds script) (objected_at 0 0 BadTraces))
         either true = refl
         either false = refl
 

@@ -8,8 +8,7 @@ use Rattle.check_input.specs.Bytes.{line_feed}
 use Rattle.settings.specs.Limits.{capacity_fits}
 use Rattle.extreme_courses.specs.Model.{model_of}
 use Rattle.script.specs.Check.{check_of}
-use Rattle.verdict.specs.declared.Verdict.{Verdict}
-use Rattle.verdict.specs.declared.Verdict.TheVariants.{No}
+use Rattle.verdict.specs.Verdict.{Verdict, objected_at}
 use Rattle.check_input.specs.VerdictLine.{verdict_text}
 
 -- §14.1: the capacity on line one, which is digits alone; any other line counts as capacity 0
@@ -23,7 +22,7 @@ script_limit = 60000
 -- §14.2: a script past the limit is 8 at line 0, place 0, where the capacity is not refused by 9
 unfoldable pub limited_check : ℕ → List ℕ → Verdict
 limited_check capacity script =
-    cond (ltb script_limit (length script) && capacity_fits capacity) (No 0 0 LongScriptLine)
+    cond (ltb script_limit (length script) && capacity_fits capacity) (objected_at 0 0 LongScriptLine)
     (check_of (model_of capacity) script)
 
 -- §14.1: the verdict on a whole input: line one is the capacity, the rest the script

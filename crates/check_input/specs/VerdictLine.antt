@@ -4,7 +4,7 @@ use Rattle.split.specs.Ascii.{bytes}
 use Rattle.format.specs.Text.{plain}
 use Rattle.check_input.specs.Bytes.{line_feed}
 use Rattle.verdict.specs.Numbers.{VerdictNumbers, ok, no, verdict_numbers}
-use Rattle.verdict.specs.declared.Verdict.{Verdict}
+use Rattle.verdict.specs.Verdict.{Verdict}
 use Rattle.check_input.specs.declared.verdict_line.VerdictLine.{VerdictLine}
 
 -- the byte " "

@@ -1,6 +1,6 @@
 -- What the programs hold in memory is enough: they say of it what §14.1, §14.2 and §14.3 say of the whole input.
 use Rattle.std.specs.Prelude.{ℕ, ◌<◌, ◌≡◌, List, ◌++◌, length, take}
-use Rattle.verdict.specs.declared.Verdict.{Verdict}
+use Rattle.verdict.specs.Verdict.{Verdict}
 use Rattle.check_input.specs.VerdictLine.{verdict_text}
 use Rattle.check_input.specs.Input.{script_limit, limited_check, input_verdict, check_output}
 use Rattle.check_input.specs.Bytes.{Memory, memory, start_input, after_bytes}

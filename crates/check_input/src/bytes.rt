@@ -11,7 +11,7 @@ const NO_CAPACITY: u32 = Settings::CAPACITY_MOST + 1;
 // What has been read of the input.
 #[derive(Clone, Copy)]
 pub struct Input {
-    // Whether line one has ended.
+    // Whether line one has ended: beside the capacity, as `memory` and `start_input` have it.
     pub ending: bool,
     // The capacity on line one.
     pub capacity: u32,

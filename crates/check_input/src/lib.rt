@@ -17,7 +17,7 @@ use outcome::Refusal;
 use script::Model;
 pub use source::{read_input, script_buffer};
 use std::io::Read;
-use verdict::Verdict;
+use verdict::{Objection, Verdict};
 pub use verdict_line::VerdictLine;
 
 // The most bytes that a script has.
@@ -32,9 +32,17 @@ pub fn limited_check(capacity: u32, script: &[u8]) -> Verdict
         return script::check(model, script);
     }
     if extreme_courses::model_fits(model) {
-        return Verdict::No(0, 0, Refusal::LongScriptLine);
+        return Err(Objection {
+            line: 0,
+            place: 0,
+            refusal: Refusal::LongScriptLine,
+        });
     }
-    Verdict::No(0, 0, Refusal::BadTraces)
+    Err(Objection {
+        line: 0,
+        place: 0,
+        refusal: Refusal::BadTraces,
+    })
 }
 
 // The verdict on what has been read.

@@ -10,7 +10,7 @@ use verdict::Verdict;
 // Room for `no`, three numbers of at most 20 digits, each behind a space, and LF.
 const ROOM: usize = 66;
 
-// A line of text.
+// A line of text, in a fixed room, since there is no heap.
 #[derive(Clone, Copy)]
 pub struct VerdictLine {
     // Its bytes, then zeros.
@@ -75,8 +75,8 @@ impl VerdictLine {
         ensures { line_bytes result ≡ verdict_text verdict }
     {
         match verdict {
-            Verdict::Fine => VerdictLine::of_bytes(b"ok\n"),
-            Verdict::No(line, place, refusal) => VerdictLine::of_no(line, place, refusal),
+            Ok(()) => VerdictLine::of_bytes(b"ok\n"),
+            Err(o) => VerdictLine::of_no(o.line, o.place, o.refusal),
         }
     }
 

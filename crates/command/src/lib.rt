@@ -139,7 +139,10 @@ fn whole_of(q: Quantity, low: u32, high: u32) -> Result<u32, Refusal>
         step: 1,
         whole: true,
     };
-    number::take(q, range).ok_or(Refusal::OutOfRange)
+    let Some(value) = number::take(q, range) else {
+        return Err(Refusal::OutOfRange);
+    };
+    Ok(value)
 }
 
 // A number as a setting's value.
@@ -147,7 +150,10 @@ fn whole_of(q: Quantity, low: u32, high: u32) -> Result<u32, Refusal>
 fn value_of(entry: usize, q: Quantity) -> Result<u32, Refusal>
     ensures { result ≡ setting_taken entry q }
 {
-    settings::take_value(entry, q).ok_or(Refusal::OutOfRange)
+    let Some(value) = settings::take_value(entry, q) else {
+        return Err(Refusal::OutOfRange);
+    };
+    Ok(value)
 }
 
 // One argument: a whole number from `low` to `high`.

@@ -71,7 +71,8 @@ pub data IsSetting : Address → Type 0 where
       1 ≤ i → i ≤ channels → IsSetting (channelled name i (at_entry (base + (i - 1)) ∷ []))
   -- §5.4: channel i of a setting with two values for each channel
   pair : (name : List ℕ) (base channels i : ℕ) → meaning_of name ≡ Some (ChannelPair base channels) →
-      1 ≤ i → i ≤ channels → IsSetting (channelled name i (at_entry (base + 2 * (i - 1)) ∷ at_entry (next_entry (base + 2 * (i - 1))) ∷ []))
+      1 ≤ i → i ≤ channels →
+      IsSetting (channelled name i (at_entry (base + 2 * (i - 1)) ∷ at_entry (next_entry (base + 2 * (i - 1))) ∷ []))
   -- §10.3: an enable
   enable : (name : List ℕ) (which : Register) → meaning_of name ≡ Some (Enable which) →
       IsSetting (plainly name (at_enable which))

@@ -22,8 +22,8 @@ use Rattle.extreme_courses.specs.Model.{OfModel, model_fits}
 use Rattle.extreme_courses.specs.declared.Model.{Model}
 use Rattle.extreme_courses.specs.Extremes.{start_extremes}
 use Rattle.script.specs.Check.{line_too_long, Finding, fine, no_command, stop, finding, line_number, verdict_of, lines_of, check_of}
-use Rattle.verdict.specs.declared.Verdict.{Verdict}
-use Rattle.verdict.specs.declared.Verdict.TheVariants.{Fine, No}
+use Rattle.verdict.specs.Verdict.{Verdict, passes, objected_at}
+use Rattle.verdict.specs.declared.Objection.{Objection}
 use Rattle.invariant.proofs.StaysValid.{stays-valid}
 use Rattle.demand3.specs.Course.{World, StartAnswers, Startable, fresh_world, before, after, LineInputs, Course}
 use Rattle.demand3.specs.Course.{answer_of, answers}
@@ -125,24 +125,33 @@ check_fits : (model : Model) (script : List ℕ) → model_fits model ≡ true
 unfolding check_of
 check_fits model script e = rw e refl
 
-check_unfit : (model : Model) (script : List ℕ) → model_fits model ≡ false → check_of model script ≡ No 0 0 BadTraces
+check_unfit : (model : Model) (script : List ℕ) → model_fits model ≡ false →
+    check_of model script ≡ objected_at 0 0 BadTraces
 unfolding check_of
 check_unfit model script e = rw e refl
 
 -- the verdict tells what is found, and a line by its number
-verdict-fine : (v : Finding) → verdict_of v ≡ Fine → v ≡ fine
+verdict-fine : (v : Finding) → verdict_of v ≡ passes → v ≡ fine
 verdict-fine fine e = refl
 verdict-fine no_command e = never (cc)
 verdict-fine (stop i p r) e = never (cc)
 
-verdict-no : (v : Finding) (n p : ℕ) (r : Refusal) (Goal : Type 0) → verdict_of v ≡ No n p r
+-- two verdicts that name a line, a place and a refusal name the same
+same_named : (l n p q : ℕ) (r s : Refusal) → objected_at l p r ≡ objected_at n q s → (l ≡ n) × (p ≡ q) × (r ≡ s)
+same_named l n p q r s e =
+    let o : ◌≡◌ {A = Objection} (record { line = l; place = p; refusal = r })
+    (record { line = n; place = q; refusal = s }) = cc in
+    (ap (λ (x : Objection). x.line) o, ap (λ (x : Objection). x.place) o, ap (λ (x : Objection). x.refusal) o)
+
+verdict-no : (v : Finding) (n p : ℕ) (r : Refusal) (Goal : Type 0) → verdict_of v ≡ objected_at n p r
     → (v ≡ no_command → n ≡ 1 → p ≡ 1 → r ≡ NoReset → Goal) → ((i : ℕ) → v ≡ stop i p r → n ≡ line_number i → Goal) → Goal
 verdict-no fine n p r G e f g = never (cc)
-verdict-no no_command n p r G e f g = f refl (cc) (cc) (cc)
+verdict-no no_command n p r G e f g =
+    let k = same_named 1 n 1 p NoReset r e in
+    f refl (sym k.0) (sym k.1) (sym k.2)
 verdict-no (stop i q s) n p r G e f g =
-    let y : s ≡ r = cc in
-    let x : q ≡ p = cc in
-    g i (rw (x, y) refl) (cc)
+    let k = same_named (line_number i) n q p s r e in
+    g i (rw (k.1, k.2) refl) (sym k.0)
 
 -- ---- a script that the check reads
 
@@ -354,9 +363,9 @@ module _ (model : Model) (lines : List (List ℕ)) where
         begun i q r e h (with_long k f u) s = seven-eight (cc)
 
     -- the other first command, or none
-    begun-back : (n p : ℕ) → NotBegun lines n p → verdict_of (finds model lines) ≡ No n p NoReset
+    begun-back : (n p : ℕ) → NotBegun lines n p → verdict_of (finds model lines) ≡ objected_at n p NoReset
     begun-back n p (other m q c l f s) = by starts where
-      by : Begins 1 (finds model lines) (first_command lines) → verdict_of (finds model lines) ≡ No n p NoReset
+      by : Begins 1 (finds model lines) (first_command lines) → verdict_of (finds model lines) ≡ objected_at n p NoReset
       by (with_reset m y d u w x) =
           let z : first m y d ≡ first n p c = sym u ∙ l in
           let b : d ≡ c = cc in
@@ -369,16 +378,18 @@ module _ (model : Model) (lines : List (List ℕ)) where
           rw (e, k, b) refl
       by (with_nothing e u) = never (cc)
       by (with_long i e u) =
-          stop_split model lines start_extremes i 0 LongScriptLine (verdict_of (finds model lines) ≡ No n p NoReset) e
+          stop_split model lines start_extremes i 0 LongScriptLine
+          (verdict_of (finds model lines) ≡ objected_at n p NoReset) e
           (λ t z q. absurd (long-suc i t (s (suc i) (omega (arith, u n p c l)))))
           (λ t h. absurd (omega arith))
     begun-back n p (nothing l s) = by starts where
-      by : Begins 1 (finds model lines) (first_command lines) → verdict_of (finds model lines) ≡ No 1 1 NoReset
+      by : Begins 1 (finds model lines) (first_command lines) → verdict_of (finds model lines) ≡ objected_at 1 1 NoReset
       by (with_reset m y d u w x) = never (cc)
       by (with_other i y m d e z u w) = never (cc)
       by (with_nothing e u) = rw e refl
       by (with_long i e u) =
-          stop_split model lines start_extremes i 0 LongScriptLine (verdict_of (finds model lines) ≡ No 1 1 NoReset) e
+          stop_split model lines start_extremes i 0 LongScriptLine
+          (verdict_of (finds model lines) ≡ objected_at 1 1 NoReset) e
           (λ t z q. absurd (long-suc i t (s (suc i))))
           (λ t h. absurd (omega arith))
 
@@ -388,7 +399,8 @@ seven_nine : NoReset ≢ BadTraces
 seven_nine = apart NoReset BadTraces (λ e. omega arith)
 
 -- 9 is not found
-found_nine : (model : Model) (lines : List (List ℕ)) (n p : ℕ) → verdict_of (finds model lines) ≡ No n p BadTraces → ⊥
+found_nine : (model : Model) (lines : List (List ℕ)) (n p : ℕ)
+    → verdict_of (finds model lines) ≡ objected_at n p BadTraces → ⊥
 found_nine model lines n p e =
     verdict-no (finds model lines) n p BadTraces ⊥ e
     (λ a b c d. seven_nine (sym d))
@@ -400,16 +412,16 @@ module _ (model : Model) (script : List ℕ) where
   -- the check's verdict v, where the model fits and where it doesn't
   by_model : (v : Verdict) (Goal : Type 0) → check_of model script ≡ v
       → (model_fits model ≡ true → verdict_of (finds model (lines_of script)) ≡ v → Goal)
-      → (model_fits model ≡ false → No 0 0 BadTraces ≡ v → Goal) → Goal
+      → (model_fits model ≡ false → objected_at 0 0 BadTraces ≡ v → Goal) → Goal
   by_model v G e f g =
       split (model_fits model)
       (λ h. f h (sym (check_fits model script h) ∙ e))
       (λ h. g h (sym (check_unfit model script h) ∙ e))
 
-  yes_case : (check_of model script ≡ Fine) ↔ AllPass model (lines_of script)
+  yes_case : (check_of model script ≡ passes) ↔ AllPass model (lines_of script)
   yes_case = (
     (λ e.
-        by_model Fine (AllPass model (lines_of script)) e
+        by_model passes (AllPass model (lines_of script)) e
         (λ h f. all_pass model (lines_of script) h (verdict-fine (finds model (lines_of script)) f))
         (λ h f. never (cc))),
     (λ a.
@@ -417,63 +429,66 @@ module _ (model : Model) (script : List ℕ) where
         check_fits model script h ∙ ap verdict_of (fine_back model (lines_of script) h a)),
   )
 
-  no_case : (n p : ℕ) (r : Refusal) → check_of model script ≡ No n p r → r ≢ NoReset → r ≢ LongScriptLine → r ≢ BadTraces
+  no_case : (n p : ℕ) (r : Refusal) → check_of model script ≡ objected_at n p r
+      → r ≢ NoReset → r ≢ LongScriptLine → r ≢ BadTraces
       → FirstRefused model (lines_of script) n p r
   no_case n p r e x y z =
-      by_model (No n p r) (FirstRefused model (lines_of script) n p r) e
+      by_model (objected_at n p r) (FirstRefused model (lines_of script) n p r) e
       (λ h f.
       verdict-no (finds model (lines_of script)) n p r (FirstRefused model (lines_of script) n p r) f
       (λ a b c d. absurd (x d))
       (λ i a b. rw b (refused-first model (lines_of script) i p r a h x y)))
-      (λ h f. let w : BadTraces ≡ r = cc in absurd (z (sym w)))
+      (λ h f. absurd (z (sym (same_named 0 n 0 p BadTraces r f).2)))
 
   seven_case : (n p : ℕ)
-      → (check_of model script ≡ No n p NoReset) ↔ (Startable model × NotBegun (lines_of script) n p)
+      → (check_of model script ≡ objected_at n p NoReset) ↔ (Startable model × NotBegun (lines_of script) n p)
   seven_case n p = (
     (λ e.
-        by_model (No n p NoReset) (Startable model × NotBegun (lines_of script) n p) e
+        by_model (objected_at n p NoReset) (Startable model × NotBegun (lines_of script) n p) e
         (λ h f. (
           fits-start model h,
           verdict-no (finds model (lines_of script)) n p NoReset (NotBegun (lines_of script) n p) f
               (λ a b c d. rw (b, c) (no-command model (lines_of script) a))
               (λ i a b. rw b (not-begun model (lines_of script) i p a)),
         ))
-        (λ h f. let w : BadTraces ≡ NoReset = cc in absurd (seven_nine (sym w)))),
+        (λ h f. absurd (seven_nine (sym (same_named 0 n 0 p BadTraces NoReset f).2)))),
     (λ a.
         let h = start_fits model a.0 in
         check_fits model script h ∙ begun-back model (lines_of script) h n p a.1),
   )
 
   long-number : model_fits model ≡ true → (n p : ℕ) → LongAt model (lines_of script) n p
-      → check_of model script ≡ No n p LongScriptLine
+      → check_of model script ≡ objected_at n p LongScriptLine
   long-number fits zero p a = absurd (false≢true (sym (short-zero model (lines_of script)) ∙ a.long))
   long-number fits (suc j) p a =
       check_fits model script fits ∙ (ap verdict_of (long-back model (lines_of script) fits j p a) ∙ rw a.nowhere refl)
 
   eight_case : (n p : ℕ)
-      → (check_of model script ≡ No n p LongScriptLine) ↔ (Startable model × LongAt model (lines_of script) n p)
+      → (check_of model script ≡ objected_at n p LongScriptLine) ↔ (Startable model × LongAt model (lines_of script) n p)
   eight_case n p = (
     (λ e.
-        by_model (No n p LongScriptLine) (Startable model × LongAt model (lines_of script) n p) e
+        by_model (objected_at n p LongScriptLine) (Startable model × LongAt model (lines_of script) n p) e
         (λ h f. (
           fits-start model h,
           verdict-no (finds model (lines_of script)) n p LongScriptLine (LongAt model (lines_of script) n p) f
               (λ a b c d. absurd (seven-eight (sym d)))
               (λ i a b. rw b (long_at model (lines_of script) i p a)),
         ))
-        (λ h f. let w : BadTraces ≡ LongScriptLine = cc in absurd
-        (apart BadTraces LongScriptLine (λ u. omega arith) w))),
+        (λ h f.
+        absurd (apart BadTraces LongScriptLine (λ u. omega arith) (same_named 0 n 0 p BadTraces LongScriptLine f).2))),
     (λ a. long-number (start_fits model a.0) n p a.1),
   )
 
   nine_case : (n p : ℕ)
-      → (check_of model script ≡ No n p BadTraces)
+      → (check_of model script ≡ objected_at n p BadTraces)
       ↔ (StartAnswers model (Err BadTraces) × (n ≡ 0) × (p ≡ 0))
   nine_case n p = (
     (λ e.
-        by_model (No n p BadTraces) (StartAnswers model (Err BadTraces) × (n ≡ 0) × (p ≡ 0)) e
+        by_model (objected_at n p BadTraces) (StartAnswers model (Err BadTraces) × (n ≡ 0) × (p ≡ 0)) e
         (λ h f. absurd (found_nine model (lines_of script) n p f))
-        (λ h f. (unfit_start model h, cc, cc))),
+        (λ h f.
+        let k = same_named 0 n 0 p BadTraces BadTraces f in
+        (unfit_start model h, sym k.0, sym k.1))),
     (λ a. check_unfit model script (start_unfit model a.0) ∙ rw (a.1, a.2) refl),
   )
 

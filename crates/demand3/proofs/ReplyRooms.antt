@@ -47,7 +47,7 @@ use Rattle.reply.specs.Reply.{terminated_text, trace_reply, query_reply, reply_o
 use Rattle.state.proofs.Sound.{sound}
 use Rattle.line.specs.Perform.{Effect, refused_by, done_by, performed, command_of}
 use Rattle.line.specs.Line.{Line, waits, after_of, after_command, run_all, start_line, line_of}
-use Rattle.script.proofs.Parts.{parts-length}
+use Rattle.split.proofs.Counted.{parts-length}
 use Rattle.queue.specs.declared.LineEnd.TheVariants as ending
 use Rattle.lockin.specs.Calls.{guarded, line_end, whole_end, whole_line, line_call}
 use Rattle.demand2.proofs.Written.{kept_size}

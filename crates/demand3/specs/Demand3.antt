@@ -15,7 +15,7 @@ use Rattle.line_text.specs.Texts.{texts_of}
 use Rattle.extreme_courses.specs.Extremes.{resets}
 use Rattle.extreme_courses.specs.declared.Model.{Model}
 use Rattle.script.specs.Check.{line_too_long, lines_of, check_of}
-use Rattle.verdict.specs.declared.Verdict.TheVariants.{Fine, No}
+use Rattle.verdict.specs.Verdict.{passes, objected_at}
 use Rattle.demand3.specs.Course.{StartAnswers, Startable, fresh_world, Course, answers}
 
 -- ---- the script itself
@@ -112,20 +112,20 @@ pub record LongAt (model : Model) (lines : List (List ℕ)) (n place : ℕ) : Ty
 -- §13.7 and §13.8: the claim, of a model and a script
 pub record Demand3 (model : Model) (script : List ℕ) : Type 0 where
   -- §13.7: yes exactly where every course passes
-  pub yes : (check_of model script ≡ Fine) ↔ AllPass model (lines_of script)
+  pub yes : (check_of model script ≡ passes) ↔ AllPass model (lines_of script)
   -- §13.5 and §13.8: 1, 2 or 3: some course is refused there, and none sooner
-  pub no : (n place : ℕ) (r : Refusal) → check_of model script ≡ No n place r
+  pub no : (n place : ℕ) (r : Refusal) → check_of model script ≡ objected_at n place r
       → r ≢ NoReset → r ≢ LongScriptLine → r ≢ BadTraces → FirstRefused model (lines_of script) n place r
   -- §12.7: 7 exactly where the script does not begin with *RST
   pub seven : (n place : ℕ)
-      → (check_of model script ≡ No n place NoReset) ↔ (Startable model × NotBegun (lines_of script) n place)
+      → (check_of model script ≡ objected_at n place NoReset) ↔ (Startable model × NotBegun (lines_of script) n place)
   -- §12.8: 8 exactly where a line is too long and nothing before it is refused
   pub eight : (n place : ℕ)
-      → (check_of model script ≡ No n place LongScriptLine)
+      → (check_of model script ≡ objected_at n place LongScriptLine)
       ↔ (Startable model × LongAt model (lines_of script) n place)
   -- §13.2: 9, at line 0 and place 0: the start refuses traces of the capacity by 9 (§12.9)
   pub nine : (n place : ℕ)
-      → (check_of model script ≡ No n place BadTraces)
+      → (check_of model script ≡ objected_at n place BadTraces)
       ↔ (StartAnswers model (Err BadTraces) × (n ≡ 0) × (place ≡ 0))
   -- §13.9: there are courses to speak of, from a fresh module
   pub course : Startable model → (k : Course model (lines_of script)) × (k.start ≡ fresh_world model)

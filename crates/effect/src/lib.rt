@@ -44,7 +44,11 @@ pub fn is_rst(a: Action) -> bool
 fn restored(s: Settings, a: Action) -> Settings
     ensures { result ≡ restored_by a s }
 {
-    if is_rst(a) { Settings::start() } else { s }
+    // Returned early: as the value of an `if` the settings would be copied once more.
+    if is_rst(a) {
+        return Settings::start();
+    }
+    s
 }
 
 // The settings after a command, but for what the frequency range does to the time constant.
@@ -96,7 +100,11 @@ pub fn storage_after(s: Settings, m: Acquisition, capacity: u32, kind: Kind) -> 
 fn restarted(m: Acquisition, a: Action) -> Acquisition
     ensures { result ≡ restarted_by a m }
 {
-    if is_rst(a) { Acquisition::start() } else { m }
+    // Returned early: as the value of an `if` the acquisition would be copied once more.
+    if is_rst(a) {
+        return Acquisition::start();
+    }
+    m
 }
 
 // The acquisition after an action that leaves these settings.

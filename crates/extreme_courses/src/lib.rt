@@ -7,7 +7,6 @@ ghost use Rattle.settings.specs.Limits.{detection_limit};
 ghost use Rattle.extreme_courses.specs.Model.{model_of, model_fits};
 ghost use Rattle.extreme_courses.specs.Extremes.{resets, measured_high, triggered_high, before_line};
 ghost use Rattle.extreme_courses.specs.Extremes.{kind_refusal, text_refusal, kind_after, text_after, start_extremes};
-ghost use Rattle.extreme_courses.specs.Parts.{early_refusal, begun_after};
 
 use command::{Kind, Parsed};
 use outcome::{Outcome, Refusal};
@@ -34,10 +33,7 @@ impl Model {
 pub fn model_fits(model: Model) -> bool
     ensures { result ≡ model_fits model }
 {
-    if model.capacity < Settings::CAPACITY_LEAST {
-        return false;
-    }
-    model.capacity <= Settings::CAPACITY_MOST
+    (Settings::CAPACITY_LEAST..=Settings::CAPACITY_MOST).contains(&model.capacity)
 }
 
 // What the check carries from command to command.
@@ -57,21 +53,14 @@ pub struct Extremes {
 fn resets(kind: Kind) -> bool
     ensures { result ≡ resets kind }
 {
-    match kind {
-        Kind::Set(_) => false,
-        Kind::Query(_) => false,
-        Kind::Act(a) => effect::is_rst(a),
-    }
+    matches!(kind, Kind::Act(a) if effect::is_rst(a))
 }
 
 // The highest frequency that is taken with a harmonic.
 pub fn highest(harmonic: u32) -> u32
     ensures { result ≡ detection_limit / harmonic }
 {
-    if harmonic == 0 {
-        return 0;
-    }
-    Settings::DETECTION_LIMIT / harmonic
+    Settings::DETECTION_LIMIT.checked_div(harmonic).unwrap_or(0)
 }
 
 // The acquisition once the highest frequency was measured, where one is measured at all.
@@ -81,9 +70,8 @@ fn measured_high(s: Settings, m: Acquisition) -> Acquisition
     if settings::is_internal(s) {
         return m;
     }
-    let mut t = m;
-    t.external = highest(settings::value_of(s, settings::HARM));
-    state::range_settled(s, t)
+    let external = highest(settings::value_of(s, settings::HARM));
+    state::range_settled(s, Acquisition { external, ..m })
 }
 
 // The acquisition once a trigger has come.
@@ -91,24 +79,23 @@ fn triggered_high(capacity: u32, s: Settings, m: Acquisition) -> Acquisition
     ensures { result ≡ triggered_high capacity s m }
 {
     let p = storage::triggered(m.storage, capacity, state::sampling_of(s));
-    let storage = p.storage;
-    let mut t = m;
-    t.storage = storage;
-    t
+    Acquisition {
+        storage: p.storage,
+        ..m
+    }
 }
 
 // What can happen before a line.
 pub fn before_line(model: Model, b: Extremes) -> Extremes
     ensures { result ≡ before_line model b }
 {
-    let settings = b.settings;
-    let low = b.low;
-    let high = b.high;
     Extremes {
-        begun: b.begun,
-        settings,
-        low,
-        high: triggered_high(model.capacity, settings, measured_high(settings, high)),
+        high: triggered_high(
+            model.capacity,
+            b.settings,
+            measured_high(b.settings, b.high),
+        ),
+        ..b
     }
 }
 
@@ -116,32 +103,19 @@ pub fn before_line(model: Model, b: Extremes) -> Extremes
 fn kind_refusal(kind: Kind, b: Extremes) -> Outcome
     ensures { result ≡ kind_refusal kind b }
 {
-    let begun = b.begun;
-    if begun {
-        let low = b.low;
-        let high = b.high;
-        if precondition::is_allowed(b.settings, low, kind) {
-            if precondition::is_allowed(b.settings, high, kind) {
-                return Ok(());
-            }
-            return Err(Refusal::NotAllowed);
+    if b.begun {
+        if precondition::is_allowed(b.settings, b.low, kind)
+            && precondition::is_allowed(b.settings, b.high, kind)
+        {
+            Ok(())
+        } else {
+            Err(Refusal::NotAllowed)
         }
-        return Err(Refusal::NotAllowed);
+    } else if resets(kind) {
+        Ok(())
+    } else {
+        Err(Refusal::NoReset)
     }
-    if resets(kind) {
-        return Ok(());
-    }
-    Err(Refusal::NoReset)
-}
-
-// Refusal 7 as long as no *RST has begun the script.
-fn early_refusal(begun: bool, refusal: Refusal) -> Outcome
-    ensures { result ≡ early_refusal begun refusal }
-{
-    if begun {
-        return Err(refusal);
-    }
-    Err(Refusal::NoReset)
 }
 
 // The refusal of a command as it is read: 7 before *RST, 1 and 2 by its text, 3 where one of the two refuses it.
@@ -151,19 +125,9 @@ pub fn text_refusal(p: Parsed, b: Extremes) -> Outcome
 {
     match p {
         Ok(None) => Ok(()),
-        Err(refusal) => early_refusal(b.begun, refusal),
+        Err(refusal) => Err(if b.begun { refusal } else { Refusal::NoReset }),
         Ok(Some(c)) => kind_refusal(c.kind, b),
     }
-}
-
-// Whether *RST has begun the script, past a command.
-fn begun_after(begun: bool, kind: Kind) -> bool
-    ensures { result ≡ begun_after begun kind }
-{
-    if begun {
-        return true;
-    }
-    resets(kind)
 }
 
 // What is carried past a command of the language that no course refuses.
@@ -171,13 +135,11 @@ fn kind_after(model: Model, kind: Kind, b: Extremes) -> Extremes
     ensures { result ≡ kind_after model kind b }
 {
     let settings = effect::settings_after(b.settings, kind);
-    let low = b.low;
-    let high = b.high;
     Extremes {
-        begun: begun_after(b.begun, kind),
+        begun: b.begun || resets(kind),
         settings,
-        low: effect::acquisition_after(settings, low, model.capacity, kind),
-        high: effect::acquisition_after(settings, high, model.capacity, kind),
+        low: effect::acquisition_after(settings, b.low, model.capacity, kind),
+        high: effect::acquisition_after(settings, b.high, model.capacity, kind),
     }
 }
 

@@ -1,4 +1,5 @@
-// Replies' text: numbers written in decimal, plain, in a given width, or with decimals and a sign.
+// Replies' text: numbers written in decimal, plain, in a given width, or with decimals and a sign. Digit by digit, as
+// the definitions say it: no Display writes a value less its bias with its decimals.
 #![tactic(auto)]
 
 ghost use Rattle.std.specs.Prelude.{◌≡◌, [], ◌∷◌, ◌+◌, ◌/◌, ◌%◌, ◌^◌};
@@ -31,6 +32,13 @@ impl Text {
             len: 0,
         }
     }
+
+    // The bytes of a text.
+    pub fn as_bytes(&self) -> &[u8]
+        ensures { result.now ≡ bytes_of self.now }
+    {
+        &self.bytes[..self.len.min(LIMIT)]
+    }
 }
 
 // The text with one byte more; a full text stays as it is.
@@ -46,7 +54,7 @@ pub fn push(t: Text, b: u8) -> Text
     n
 }
 
-// The whole part of a value in units of 10^-decimals.
+// The whole part of a value in units of 10^-decimals: a division by the constant 10 is fast, by a variable slow.
 fn whole_part(value: u32, decimals: u8) -> u32
     ensures { result ≡ value / 10 ^ decimals }
 {

@@ -1,24 +1,24 @@
 -- Bytes that a line does not have are in none of its commands. Assumes nothing.
 use Prim.Native.Nat.{ℕ, zero, suc, ◌+◌, ◌≤◌, ◌<◌}
 use mathlib.Core.Path.{◌≡◌, refl}
-use mathlib.Core.Bool.{Bool, true, false, ◌||◌, or_assoc}
+use mathlib.Core.Bool.{Bool, true, false, ◌||◌}
 use mathlib.Core.List.{List, [], ◌∷◌}
-use native.Mathlib.Numerals.{add-one}
 use native.Mathlib.Omega.{arith}
 use borrow.Author.Tests.{ltb-false, ne_eqb}
+use Rattle.std.specs.List.{list_any}
 use lib.Dec.{ltb, eqb}
-use lib.ListN.{length, take, drop, get_or, length-take}
-use lib.Seq.{drop-cons}
+use lib.ListN.{length, take, drop, length-take}
 use Rattle.laws.proofs.Tests.{split, cond_by}
 use Rattle.split.specs.Divide.{on_head, parts}
+use Rattle.split.proofs.Counted.{parts-length}
 use Rattle.line_text.specs.Clean.{line_limit, is_dropped, capital, cleaned, small_a, small_z}
 use Rattle.line_text.specs.Texts.{semicolon}
 use Rattle.line.specs.Parts.{texts_run, has}
 
--- a turn of the scan: one byte more is looked at
-pub has_more : (b : ℕ) (t : Bool) (s : List ℕ) (i : ℕ) → i < length s →
-    ((t || eqb (get_or s i 0) b) || has b (drop (i + 1) s)) ≡ (t || has b (drop i s))
-has_more b t s i h = rw (add-one, drop-cons s i 0 h) (or_assoc t (eqb (get_or s i 0) b) (has b (drop (suc i) s)))
+-- a byte found by a test of each
+pub any_has : (b : ℕ) (s : List ℕ) → list_any (λ x. eqb x b) s ≡ has b s
+any_has b [] = refl
+any_has b (x ∷ xs) = rw (any_has b xs)
 
 -- neither of two tests holds
 pub or-none : (a b : Bool) → (a || b) ≡ false → (a ≡ false) × (b ≡ false)
@@ -93,21 +93,6 @@ without_texts b l line h =
     (without_take b line_limit (cleaned line) (without_cleaned b l line h))
 
 -- ---- how many commands there are
-
--- the first part with a byte more is one part, the others stay
-head_length : (x : ℕ) (ps : List (List ℕ)) (n : ℕ) → length ps ≤ n → 1 ≤ n → length (on_head x ps) ≤ n
-unfolding on_head
-head_length x [] n h l = l
-head_length x (p ∷ ps) n h l = h
-
--- one more than there are separators
-parts-length : (sep : ℕ) (s : List ℕ) → length (parts sep s) ≤ length s + 1
-unfolding parts
-parts-length sep [] = omega arith
-parts-length sep (x ∷ s) =
-    let rest = parts-length sep s in
-    split (eqb x sep) (λ e. rw e (omega arith))
-    (λ e. rw e (head_length x (parts sep s) (suc (length s) + 1) (omega arith) (omega arith)))
 
 -- no more bytes count than there are
 cleaned-length : (s : List ℕ) → length (cleaned s) ≤ length s

@@ -1,59 +1,70 @@
--- A command's effect, by the test that decides it. Assumes nothing.
-use Prim.Native.Nat.{ℕ, ◌≤◌}
+-- A command's effect, by the test that decides it, and its reply, which fits the room. Assumes nothing.
+use Prim.Native.Nat.{ℕ, ◌<◌, ◌≤◌}
 use mathlib.Core.Bool.{Bool, true, false}
-use mathlib.Core.Path.{◌≡◌, refl, sym, ap, ◌∙◌}
+use mathlib.Core.Path.{◌≡◌, ap}
 use mathlib.Core.List.{List}
 use native.Mathlib.Omega.{arith}
-use borrow.Author.Tests.{leb-true}
+use borrow.Author.Tests.{le-leb, lt-leb, leb-true}
+use lib.Dec.{leb}
 use lib.ListN.{length}
+use Rattle.laws.proofs.Tests.{split}
+use Rattle.std.specs.Prelude.{Some, None, Ok, Err}
 use Rattle.outcome.specs.declared.Refusal.TheVariants.{NotAllowed, NoRoom}
-use Rattle.outcome.specs.Code as outcome
+use Rattle.command.specs.Parsed.{Parsed}
 use Rattle.command.specs.declared.Kind.{Kind}
-use Rattle.state.specs.Storing.{stored_in}
 use Rattle.state.specs.declared.State.{State}
 use Rattle.precondition.specs.Allowed.{is_allowed}
 use Rattle.effect.specs.Effect.{state_after}
-use Rattle.std.specs.Prelude.{Some, None}
-use Rattle.reply_buffer.specs.Buffer.{fits_in, sent_bytes}
-use Rattle.reply_buffer.specs.Parts.{Sends}
-use Rattle.reply_buffer.specs.After.{Meets}
-use Rattle.reply_buffer.proofs.Over.{sent-some, sent-none}
-use Rattle.reply_buffer.proofs.After.{silent-meets}
+use Rattle.reply_buffer.specs.Buffer.{fits_in}
+use Rattle.reply.specs.declared.Reply.{Reply}
 use Rattle.reply.specs.Reply.{reply_of}
-use Rattle.line.specs.Perform.{storage_step_by, done_by, performed}
-use Rattle.line.specs.Parts.{command_result, refused_with}
+use Rattle.reply.specs.Parts.{bytes_said}
+use Rattle.line.specs.Perform.{refused_by, storage_step_by, done_by, performed, command_of}
+use Rattle.line.specs.Parts.{written_by}
 
--- what is written fits the room
-pub written-fits : (bytes : List ℕ) {n : ℕ} {new old : List ℕ} → Sends bytes (Some n) new old → n ≤ length old
-unfolding fits_in
-written-fits bytes {n = n} {old = old} sends =
-    let sent = sent-some bytes (length old) n sends.sent in
-    omega (arith, leb-true (length bytes) (length old) sent.0, sent.1)
-
-module _ (waiting : Bool) (kind : Kind) (s : State) (one two : List ℕ) where
+-- one command, by the test that decides it
+module _ (room : ℕ) (waiting : Bool) (kind : Kind) (s : State) (one two : List ℕ) where
   -- 3 refuses it
-  pub not_allowed_lem : (old : List ℕ) → is_allowed s.settings s.acquisition kind ≡ false →
-      Meets command_result (performed (length old) waiting kind s one two) (refused_with NotAllowed s) one two old old
+  pub by_three : is_allowed s.settings s.acquisition kind ≡ false →
+      refused_by NotAllowed s one two ≡ performed room waiting kind s one two
   unfolding performed
-  not_allowed_lem old e = rw e (silent-meets command_result _ _ one two old)
+  by_three e = rw e
 
-  module _ {new old : List ℕ} (allowed : is_allowed s.settings s.acquisition kind ≡ true) where
-    -- 4 refuses it
-    pub no_room_lem : Sends (reply_of kind s waiting one two) None new old →
-        Meets command_result (performed (length old) waiting kind s one two) (refused_with NoRoom s) one two new old
-    unfolding performed sent_bytes
-    no_room_lem sends =
-        let fits = sent-none (reply_of kind s waiting one two) (length old) sends.sent in
-        rw (allowed, fits) (record { result = refl; first = refl; second = refl; reply = sends.reply ∙ rw fits })
+  module _ (reply : Reply) (said : bytes_said reply one two ≡ reply_of kind s waiting one two)
+      (n : ℕ) (long : n ≡ length (bytes_said reply one two))
+      (allowed : is_allowed s.settings s.acquisition kind ≡ true)
+    where
+      -- 4 refuses it
+      pub by_four : room < n → refused_by NoRoom s one two ≡ performed room waiting kind s one two
+      unfolding performed fits_in
+      by_four h =
+          let e : leb (length (reply_of kind s waiting one two)) room ≡ false =
+          lt-leb (length (reply_of kind s waiting one two)) room (omega (arith, ap length said)) in
+          rw (allowed, e)
 
-    -- it is done
-    pub done : {n : ℕ} → Sends (reply_of kind s waiting one two) (Some n) new old →
-        Meets command_result (performed (length old) waiting kind s one two)
-        (record { state = state_after kind s; written = n; outcome = outcome.done })
-        (stored_in (storage_step_by kind s) s s.latest.one one) (stored_in (storage_step_by kind s) s s.latest.two two)
-        new old
-    unfolding performed done_by sent_bytes
-    done {n = n} sends =
-        let sent = sent-some (reply_of kind s waiting one two) (length old) n sends.sent in
-        rw (allowed, sent.0, sent.1)
-        (record { result = refl; first = refl; second = refl; reply = sends.reply ∙ rw sent.0 })
+      -- it is done
+      pub as_planned : n ≤ room →
+          written_by (record { state = state_after kind s; reply = reply; step = storage_step_by kind s }) s one two
+          ≡ performed room waiting kind s one two
+      unfolding performed done_by written_by fits_in
+      as_planned h =
+          let e : leb (length (reply_of kind s waiting one two)) room ≡ true =
+          le-leb (length (reply_of kind s waiting one two)) room (omega (arith, ap length said)) in
+          rw (allowed, e, said)
+
+-- a reply fits the room that is left for it
+performed-fits : (room : ℕ) (waiting : Bool) (kind : Kind) (s : State) (one two : List ℕ) →
+    length (performed room waiting kind s one two).out ≤ room
+unfolding performed done_by fits_in
+performed-fits room waiting kind s one two =
+    let reply = reply_of kind s waiting one two in
+    split (is_allowed s.settings s.acquisition kind)
+    (λ e. rw e (split (leb (length reply) room) (λ f. rw f (leb-true (length reply) room f)) (λ f. rw f (omega arith))))
+    (λ e. rw e (omega arith))
+
+pub command-fits : (room : ℕ) (waiting : Bool) (p : Parsed) (s : State) (one two : List ℕ) →
+    length (command_of room waiting p s one two).out ≤ room
+unfolding command_of
+command-fits room waiting (Ok None) s one two = omega arith
+command-fits room waiting (Err r) s one two = omega arith
+command-fits room waiting (Ok (Some c)) s one two = performed-fits room waiting c.kind s one two

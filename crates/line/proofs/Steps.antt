@@ -1,6 +1,6 @@
 -- A command of a line, lent the reply room from the bytes already written onward. Assumes nothing.
-use Prim.Native.Nat.{ℕ, ◌+◌, ◌-◌, ◌*◌, ◌^◌, ◌<◌, ◌≤◌}
-use mathlib.Core.Path.{◌≡◌, sym, ap, ap₂, ◌∙◌}
+use Prim.Native.Nat.{ℕ, ◌-◌, ◌≤◌}
+use mathlib.Core.Path.{◌≡◌, sym, ap, ◌∙◌}
 use mathlib.Core.List.{List, [], ◌++◌, append-nil}
 use native.Mathlib.Omega.{arith}
 use lib.Dec.{ltb}
@@ -10,11 +10,10 @@ use Rattle.command.specs.Parsed.{parsed_of}
 use Rattle.reply_buffer.specs.Buffer.{overwrite}
 use Rattle.reply_buffer.specs.After.{Meets}
 use Rattle.reply_buffer.proofs.Over.{over_more, over-take, over-drop}
-use Rattle.line.specs.declared.CommandResult.{CommandResult}
 use Rattle.line.specs.declared.Progress.{Progress}
 use Rattle.line.specs.Perform.{Effect, command_of}
 use Rattle.line.specs.Line.{after_of, after_command}
-use Rattle.line.specs.Parts.{command_result, progress_after, progress_of, line_reached}
+use Rattle.line.specs.Parts.{progress_after, progress_of, line_reached}
 
 -- the part of a room from a place on, and the room once that part came back as new
 abbrev pub part : List ℕ → ℕ → List ℕ
@@ -27,8 +26,8 @@ module _ (reply : List ℕ) (at : ℕ) (h : at ≤ length reply) where
   pub part_whole : part reply at ≡ drop at reply
   part_whole = take_all (length reply - at) (drop at reply) (simp length-drop (omega arith))
 
-  pub part_room : length (part reply at) ≡ length reply - length (take at reply)
-  part_room = ap length part_whole ∙ length-drop at reply ∙ ap (λ n. length reply - n) (sym (length-take-le at reply h))
+  pub part_room : length (part reply at) ≡ length reply - at
+  part_room = ap length part_whole ∙ length-drop at reply
 
   pub mended_over : (out new : List ℕ) → new ≡ overwrite out (part reply at) →
       mended reply at new ≡ overwrite (take at reply ++ out) reply
@@ -40,30 +39,24 @@ module _ (reply : List ℕ) (at : ℕ) (h : at ≤ length reply) where
       ∙ ap (λ l. take at reply ++ l) (append-nil new ∙ e ∙ ap (overwrite out) (part_whole ∙ ap (λ i. drop i reply) (sym k)))
       ∙ rw (over-take (take at reply) reply, over-drop (take at reply) reply) at (over_more (take at reply) out reply)
 
-  pub part_fits : (new : List ℕ) (w : ℕ) → w ≤ length new → length new ≡ length (part reply at) →
-      length reply * 1 < 2 ^ 63 → at + w < 18446744073709551616
-  part_fits new w f e g = omega (arith, part_room, length-take-le at reply h)
-
-  pub mended_fits : (new : List ℕ) (w : ℕ) → w ≤ length new → at + w ≤ length (mended reply at new)
-  mended_fits new w f = simp (length-append, length-take-le at reply h) (omega arith)
+  pub mended-length : (new : List ℕ) → length new ≡ length (part reply at) →
+      length (mended reply at new) ≡ length reply
+  mended-length new e =
+      simp (length-append, length-drop, length-take-le at reply h)
+      (omega (arith, part_room, length-take-le at reply h))
 
 -- one more command, done in the part of the room behind the bytes already written
-pub step-holds : (p q : Progress) (text one two one' two' reply new : List ℕ) (d : CommandResult) → p.at ≤ length reply →
-    Meets command_result (command_of (length (part reply p.at)) (ltb 0 p.at) (parsed_of text) p.state one two)
-    d one' two' new (part reply p.at) →
-    q ≡ progress_after p d →
+pub step-holds : (p q : Progress) (text one two one' two' reply new : List ℕ) (e : Effect) → p.at ≤ length reply →
+    e ≡ command_of (length reply - p.at) (ltb 0 p.at) (parsed_of text) p.state one two →
+    one' ≡ e.one → two' ≡ e.two → new ≡ overwrite e.out (part reply p.at) → q ≡ progress_after p e →
     Meets progress_of (after_command (length reply) text (line_reached p one two reply)) q one' two' (mended reply p.at new) reply
 unfolding after_command after_of
-step-holds p q text one two one' two' reply new d h did e =
-    let command : ℕ → ℕ → Effect = λ room n. command_of room (ltb 0 n) (parsed_of text) p.state one two in
+step-holds p q text one two one' two' reply new e h did first second out after =
     let k : length (take p.at reply) ≡ p.at = length-take-le p.at reply h in
-    let f : Effect = command (length (part reply p.at)) p.at in
-    let g : f ≡ command (length reply - length (take p.at reply)) (length (take p.at reply)) =
-    ap₂ command (part_room reply p.at h) (sym k) in
-    rw (← g)
+    rw (k, ← did)
     (record {
-      result = e ∙ ap (progress_after p) did.result ∙ rw (length-append, k);
-      first = did.first;
-      second = did.second;
-      reply = mended_over reply p.at h f.out new did.reply;
+      result = after ∙ rw (length-append, k);
+      first = first;
+      second = second;
+      reply = mended_over reply p.at h e.out new out;
     })

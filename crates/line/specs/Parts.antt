@@ -1,26 +1,38 @@
--- What the code gives back for a command and for a line on its way (§2.6, §2.7), and which lines surely find room for
--- their replies (§12.4, §12.13). No promise of a public call speaks of these.
-use Rattle.std.specs.Prelude.{ℕ, ◌+◌, ◌/◌, Bool, false, not, ◌&&◌, ◌||◌, List, [], ◌∷◌, ltb, eqb, length, take, Err}
+-- What the code takes the text of a command for, and gives back for a line on its way (§2.6, §2.7), and which lines
+-- surely find room for their replies (§12.4, §12.13). No promise of a public call speaks of these.
+use Rattle.std.specs.Prelude.{ℕ, ◌+◌, ◌/◌, Bool, false, not, ◌&&◌, ◌||◌, List, [], ◌∷◌, ltb, eqb, length, take}
+use Rattle.std.specs.Prelude.{Option, Some, None, Result, Ok, Err}
 use Rattle.split.specs.Divide.{parts}
 use Rattle.command.specs.Arguments.{question_mark, comma}
 use Rattle.line_text.specs.Clean.{line_limit, cleaned}
 use Rattle.line_text.specs.Texts.{semicolon}
 use Rattle.outcome.specs.declared.Refusal.{Refusal}
+use Rattle.outcome.specs.Code.{done}
 use Rattle.outcome.specs.Answer.{first_of, drops}
-use Rattle.state.specs.State.{with_error_bit}
+use Rattle.state.specs.Storing.{stored_in}
 use Rattle.state.specs.declared.State.{State}
-use Rattle.line.specs.Perform.{Effect}
+use Rattle.reply.specs.Parts.{bytes_said}
+use Rattle.line.specs.Perform.{Effect, refused_by, nothing}
 use Rattle.line.specs.Line.{Line}
-use Rattle.line.specs.declared.CommandResult.{CommandResult}
+use Rattle.line.specs.declared.Plan.{Plan}
 use Rattle.line.specs.declared.Progress.{Progress}
 
--- what the code gives back for a command
-abbrev pub command_result : Effect → CommandResult
-command_result e = record { state = e.after; written = length e.out; outcome = e.report }
+-- what a command that is not refused leaves, once what the code plans of it is written
+unfoldable pub written_by : Plan → State → List ℕ → List ℕ → Effect
+written_by p s one two =
+    record {
+      after = p.state;
+      one = stored_in p.step s s.latest.one one;
+      two = stored_in p.step s s.latest.two two;
+      out = bytes_said p.reply one two;
+      report = done;
+    }
 
--- the code's answer for a refused command
-abbrev pub refused_with : Refusal → State → CommandResult
-refused_with r s = record { state = with_error_bit r s; written = 0; outcome = Err r }
+-- what a command's text leaves by what the code takes it for
+unfoldable pub effect_of : Result (Option Plan) Refusal → State → List ℕ → List ℕ → Effect
+effect_of (Ok None) s one two = nothing s one two
+effect_of (Err r) s one two = refused_by r s one two
+effect_of (Ok (Some p)) s one two = written_by p s one two
 
 -- the commands that the code runs of a line of any length: those among its first bytes that count (§2.5), as many as a
 -- line may have, which are all where the line is not too long
@@ -28,14 +40,14 @@ abbrev pub texts_run : List ℕ → List (List ℕ)
 texts_run line = parts semicolon (take line_limit (cleaned line))
 
 -- the code's progress after one more command
-abbrev pub progress_after : Progress → CommandResult → Progress
-progress_after p d =
+abbrev pub progress_after : Progress → Effect → Progress
+progress_after p e =
     record {
-      state = d.state;
-      at = p.at + d.written;
-      answer = first_of p.answer d.outcome (p.count + 1);
+      state = e.after;
+      at = p.at + length e.out;
+      answer = first_of p.answer e.report (p.count + 1);
       count = p.count + 1;
-      dropped = drops d.outcome;
+      dropped = drops e.report;
     }
 
 -- what the code gives back for a line on its way

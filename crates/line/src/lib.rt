@@ -3,27 +3,33 @@
 
 ghost use Rattle.std.specs.Prelude.{◌≡◌, not, List, ℕ, ◌+◌, ◌≤◌, ◌<◌, length};
 ghost use Rattle.split.specs.Divide.{parts};
-ghost use Rattle.command.specs.Parsed.{parsed_of};
-ghost use Rattle.line.specs.Perform.{performed, command_of};
 ghost use Rattle.line.specs.Line.{after_command, run_all, start_line};
-ghost use Rattle.line.specs.Parts.{command_result, refused_with, texts_run, progress_after, progress_of, line_reached};
+ghost use Rattle.line.specs.Parts.{effect_of, texts_run, progress_after, progress_of, line_reached};
 ghost use Rattle.line_text.specs.Texts.{semicolon};
+ghost use Rattle.reply_buffer.specs.Buffer.{overwrite};
 ghost use Rattle.reply_buffer.specs.After.{Meets};
 
 mod dry;
 mod quick;
 
-use command::Command;
-use outcome::{Answer, Outcome, Refusal};
+use outcome::{Answer, Refusal};
+use reply::Reply;
 use state::State;
+use storage::StorageStep;
 
-// What one command leaves: the state, the number of reply bytes written, and whether it was refused.
+// A command that is not refused, before anything of it is written.
 #[derive(Clone, Copy)]
-pub struct CommandResult {
+pub struct Plan {
+    // The state after it.
     pub state: State,
-    pub written: usize,
-    pub outcome: Outcome,
+    // What it replies.
+    pub reply: Reply,
+    // What it does to storage.
+    pub step: StorageStep,
 }
+
+// What a command's text is taken for: a command to be done, an empty one, or one that is refused.
+pub type Taken = Result<Option<Plan>, Refusal>;
 
 // A line on its way: the state, the number of reply bytes written, the answer so far, how many commands there were, and
 // whether the rest is dropped.
@@ -36,92 +42,54 @@ pub struct Progress {
     pub dropped: bool,
 }
 
-// A refused command: its error bit is set, and nothing else.
-fn refused(s: State, refusal: Refusal) -> CommandResult
-    ensures { result ≡ refused_with refusal s }
-{
-    CommandResult {
-        state: state::with_error_bit(s, refusal),
-        written: 0,
-        outcome: Err(refusal),
+impl Progress {
+    // A line before its first command.
+    fn start(state: State) -> Progress
+        ensures { (one two : List ℕ) → result ≡ progress_of (start_line state one two) }
+    {
+        Progress {
+            state,
+            at: 0,
+            answer: Ok(()),
+            count: 0,
+            dropped: false,
+        }
     }
 }
 
-// A command that is read: refused by 3 or 4, or done.
-fn perform(
-    s: State,
-    c: Command,
-    waiting: bool,
-    one: &mut [u32],
-    two: &mut [u32],
-    out: &mut [u8],
-) -> CommandResult
-    ensures meets { Meets command_result
-        (performed (length out.old) waiting c.kind s one.old two.old)
-        result one.new two.new out.new out.old }
-    ensures written_in_bounds { result.written ≤ length out.new }
+// What a command's text is taken for, written: the reply at the front of out, and what is stored.
+fn write(s: State, taken: Taken, one: &mut [u32], two: &mut [u32], out: &mut [u8])
+    requires { length (effect_of taken s one.old two.old).out ≤ length out.old }
+    ensures { (one.new ≡ (effect_of taken s one.old two.old).one)
+        × (two.new ≡ (effect_of taken s one.old two.old).two)
+        × (out.new ≡ overwrite (effect_of taken s one.old two.old).out out.old) }
 {
-    let kind = c.kind;
-    let acquisition = s.acquisition;
-    let allowed = precondition::is_allowed(s.settings, acquisition, kind);
-    if allowed {
-        let Some(written) = reply::send_reply(s, kind, waiting, &one[..], &two[..], out) else {
-            return refused(s, Refusal::NoRoom);
-        };
-        let installation = s.installation;
-        let p = effect::storage_after(s.settings, acquisition, installation.capacity, kind);
-        let next = effect::state_after(s, kind, p);
-        state::store(s, p, one, two);
-        return CommandResult {
-            state: next,
-            written,
-            outcome: Ok(()),
-        };
-    }
-    refused(s, Refusal::NotAllowed)
-}
-
-// A command's text: empty, refused by 1 or 2, or performed.
-#[tactic(auto, unfolding(crate::specs::Perform::command_of))]
-fn take_command(
-    s: State,
-    text: &[u8],
-    waiting: bool,
-    one: &mut [u32],
-    two: &mut [u32],
-    out: &mut [u8],
-) -> CommandResult
-    ensures meets { Meets command_result
-        (command_of (length out.old) waiting (parsed_of text.now)
-        s one.old two.old)
-        result one.new two.new out.new out.old }
-    ensures written_in_bounds { result.written ≤ length out.new }
-{
-    let parsed = command::parse(text);
-    match parsed {
-        Ok(None) => CommandResult {
-            state: s,
-            written: 0,
-            outcome: Ok(()),
-        },
-        Err(refusal) => refused(s, refusal),
-        Ok(Some(c)) => perform(s, c, waiting, one, two, out),
+    match taken {
+        Ok(Some(plan)) => {
+            plan.reply.send(one, two, out);
+            state::store(s, plan.step, one, two);
+        }
+        Ok(None) => {}
+        Err(_) => {}
     }
 }
 
-// The line after one more command.
-fn after(p: Progress, d: CommandResult) -> Progress
-    requires { (p.at + d.written < 18446744073709551616) × (p.count < 1000) }
-    ensures { result ≡ progress_after p d }
+// The line after one more command, by what its text is taken for.
+fn after(p: Progress, taken: Taken) -> Progress
+    requires { ((one two : List ℕ) → p.at + length (effect_of taken p.state one two).out < 18446744073709551616)
+        × (p.count < 1000) }
+    ensures { (one two : List ℕ) → result ≡ progress_after p (effect_of taken p.state one two) }
 {
     let count = p.count + 1;
-    let answer = p.answer;
-    let outcome = d.outcome;
-    let state = d.state;
+    let (state, written, outcome) = match taken {
+        Ok(None) => (p.state, 0, Ok(())),
+        Ok(Some(plan)) => (plan.state, plan.reply.length(), Ok(())),
+        Err(refusal) => (state::with_error_bit(p.state, refusal), 0, Err(refusal)),
+    };
     Progress {
         state,
-        at: p.at + d.written,
-        answer: outcome::first_of(answer, outcome, count),
+        at: p.at + written,
+        answer: outcome::first_of(p.answer, outcome, count),
         count,
         dropped: outcome::drops(outcome),
     }
@@ -136,10 +104,9 @@ fn step(p: Progress, text: &[u8], one: &mut [u32], two: &mut [u32], reply: &mut 
         result one.new two.new reply.new reply.old }
     ensures at_in_bounds { (p.at ≤ result.at) × (result.at ≤ length reply.new) × (result.count ≡ p.count + 1) }
 {
-    let at = p.at;
-    let s = p.state;
-    let d = take_command(s, text, 0 < at, one, two, &mut reply[at..]);
-    after(p, d)
+    let taken = dry::take_command(p.state, text, 0 < p.at, reply.len() - p.at);
+    write(p.state, taken, one, two, &mut reply[p.at..]);
+    after(p, taken)
 }
 
 // The commands of a cleaned line, one after the other, up to one that is refused by 4.
@@ -150,27 +117,14 @@ fn run(s: State, text: &[u8], one: &mut [u32], two: &mut [u32], reply: &mut [u8]
         (start_line s one.old two.old))
         result one.new two.new reply.new reply.old }
 {
-    let mut p = Progress {
-        state: s,
-        at: 0,
-        answer: Ok(()),
-        count: 0,
-        dropped: false,
-    };
-    let mut a = 0;
-    loop {
-        let e = split::end_of(text, b';', a);
-        let next = step(p, &text[a..e], one, two, reply);
-        p = next;
-        let dropped = p.dropped;
-        if dropped {
+    let mut p = Progress::start(s);
+    for part in text.split(|byte| *byte == b';') {
+        p = step(p, part, one, two, reply);
+        if p.dropped {
             return p;
         }
-        if e == text.len() {
-            return p;
-        }
-        a = e + 1;
     }
+    p
 }
 
 // A line: its first 256 bytes that count, which are all of a line of at most 256 bytes.
@@ -187,9 +141,7 @@ pub fn run_line(
         result one.new two.new reply.new reply.old }
 {
     let c = line_text::clean(line);
-    let bytes = c.bytes;
-    let len = c.len;
-    run(s, &bytes[0..len], one, two, reply)
+    run(s, c.line(), one, two, reply)
 }
 
 // Whether no command of a line would be refused by 4, where `room` bytes are lent for its replies: the line is gone
@@ -198,9 +150,5 @@ pub fn fits(s: State, line: &[u8], room: usize) -> bool
     ensures { (one two : List ℕ) →
         result ≡ not (run_all room (texts_run line.now) (start_line s one two)).report.dropped }
 {
-    let sure = quick::must_fit(line, room);
-    if sure {
-        return true;
-    }
-    dry::fits(s, line, room)
+    quick::must_fit(line, room) || dry::fits(s, line, room)
 }

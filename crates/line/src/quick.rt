@@ -10,14 +10,7 @@ const TEXT_MOST: usize = 28;
 pub fn must_fit(line: &[u8], room: usize) -> bool
     ensures { result ≡ must_fit line.now room }
 {
-    let mut asks = false;
-    let mut divides = false;
-    let mut i = 0;
-    while i < line.len() {
-        let b = line[i];
-        asks = asks | (b == b'?');
-        divides = divides | (b == b',');
-        i += 1;
-    }
-    !asks | (!divides & (line.len() < room / TEXT_MOST))
+    let asks = line.contains(&b'?');
+    let divides = line.contains(&b',');
+    !asks || (!divides && line.len() < room / TEXT_MOST)
 }

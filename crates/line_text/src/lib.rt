@@ -19,10 +19,9 @@ pub struct Cleaned {
 impl Cleaned {
     // The line alone.
     pub fn line(&self) -> &[u8]
-        requires { self.now.len ≤ line_limit }
         ensures { result.now ≡ shown self.now }
     {
-        &self.bytes[..self.len]
+        self.bytes.get(..self.len).unwrap_or(&self.bytes)
     }
 }
 

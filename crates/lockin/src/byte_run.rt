@@ -1,6 +1,6 @@
 // A run of bytes in one call (§2.9, §2.10). The state is tested once; a byte that ends no line touches the queue alone;
 // a line that ends runs from the queue, and writes behind the replies of the lines before it.
-ghost use Rattle.std.specs.Prelude.{◌≡◌, true, cond, ◌&&◌, List, ℕ, ◌+◌, ◌-◌, ◌≤◌, ◌<◌, ltb, length, drop, is_none, unwrap_or};
+ghost use Rattle.std.specs.Prelude.{◌≡◌, true, cond, ◌&&◌, List, ℕ, ◌+◌, ◌-◌, ◌≤◌, ◌<◌, ltb, length, drop};
 ghost use Rattle.line_text.specs.Clean.{line_limit};
 ghost use Rattle.queue.specs.Queue.{is_end};
 ghost use Rattle.reply_buffer.specs.After.{Meets};
@@ -22,7 +22,8 @@ use state::State;
 pub struct RunReport {
     // How many of its bytes were taken: all, or those before the byte at which it stopped.
     pub taken: usize,
-    // The line of the first refusal, from 1 in the run; 0 where nothing is refused.
+    // The line of the first refusal, from 1 in the run; 0 where nothing is refused, and where a run is refused as a
+    // whole (`refused_run`): so no Option.
     pub line: usize,
     // The first refusal with its place, and the length of the replies, one behind the other.
     pub report: Report,
@@ -59,6 +60,14 @@ struct RunProgress {
     ended: usize,
     line: usize,
     report: Report,
+}
+
+// What one more byte leaves of a run: the run with the byte, or the run as it was where it stops before the byte. As an
+// `Option` the run would be copied once more for each line.
+#[derive(Clone, Copy)]
+struct RunStep {
+    stopped: bool,
+    progress: RunProgress,
 }
 
 // A queue after bytes of a run of which none ended a line that can run, but for its bytes; how many bytes of the run
@@ -228,7 +237,7 @@ fn end_behind(
     end_line(s, ending, text, one, two, &mut reply[written..])
 }
 
-// One more byte of a run; none where the run stops before it, and stays as it was.
+// One more byte of a run, unless the run stops before it.
 fn next_byte(
     p: RunProgress,
     b: u8,
@@ -236,12 +245,12 @@ fn next_byte(
     one: &mut [u32],
     two: &mut [u32],
     reply: &mut [u8],
-) -> Option<RunProgress>
+) -> RunStep
     requires { (p.report.length ≤ length reply.old) × (p.ended ≤ p.taken) × (p.taken < 9223372036854775808) }
     ensures next_byte { NextByte (length reply.old) b mark
         (run_at p one.old two.old reply.old)
-        (is_none result) (run_at (unwrap_or result p) one.new two.new reply.new) }
-    ensures length_in_bounds { (unwrap_or result p).report.length ≤ length reply.new }
+        result.stopped (run_at result.progress one.new two.new reply.new) }
+    ensures length_in_bounds { result.progress.report.length ≤ length reply.new }
 {
     let state = p.after.state;
     let port = p.after.state.installation.port;
@@ -259,7 +268,10 @@ fn next_byte(
         &bytes[0..end],
         reply.len() - written,
     ) {
-        return None;
+        return RunStep {
+            stopped: true,
+            progress: p,
+        };
     }
     let r = end_behind(state, ending, &bytes[0..end], one, two, reply, written);
     let after = r.state;
@@ -273,10 +285,13 @@ fn next_byte(
         queue,
         state: after,
     };
-    Some(advance(p, m, report, count_end(p.ended, port, b, mark)))
+    RunStep {
+        stopped: false,
+        progress: advance(p, m, report, count_end(p.ended, port, b, mark)),
+    }
 }
 
-// The bytes of a run, up to one before which it stops.
+// The bytes of a run, up to one before which it stops. No `for`: each turn goes on behind the bytes that it took.
 fn run_bytes(
     m: Module,
     run: &[u8],
@@ -306,10 +321,11 @@ fn run_bytes(
         if at == run.len() {
             return p;
         }
-        let Some(next) = next_byte(p, run[at], marked_at(run, mark, at), one, two, reply) else {
+        let step = next_byte(p, run[at], marked_at(run, mark, at), one, two, reply);
+        p = step.progress;
+        if step.stopped {
             return p;
-        };
-        p = next;
+        }
     }
 }
 
@@ -346,7 +362,7 @@ fn refused_run(m: Module, refusal: Refusal) -> RunResult
     }
 }
 
-// A run's report in numbers.
+// A run's report in numbers. A function, and no impl of From: its name is one of lockin's public names.
 pub fn run_numbers_of(report: RunReport) -> RunNumbers
     ensures { result ≡ run_numbers_of report }
 {

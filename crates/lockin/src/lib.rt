@@ -1,5 +1,6 @@
 // The calls on one lock-in module: start, bytes one by one or in runs, lines handed over whole, events, and the status
-// byte between lines. Open this crate first.
+// byte between lines. Open this crate first. Traces and reply room are lent side by side: a struct of the three would
+// ask of each contract that each reference stays the same one.
 #![tactic(auto)]
 
 ghost use Rattle.std.specs.Prelude.{◌≡◌, [], ◌≤◌, length, Err};
@@ -28,7 +29,8 @@ use queue::{LineEnd, Queue, QueueStep};
 use settings::Settings;
 use state::{Installation, State};
 
-// A start: the module, and whether the start was refused.
+// A start: the module, and whether the start was refused. No Result: `RefusedStart` (crates/demand1) states the module
+// that a refused start gives.
 #[derive(Clone, Copy)]
 pub struct StartResult {
     pub after: Module,
@@ -50,7 +52,8 @@ pub struct EventResult {
     pub outcome: Outcome,
 }
 
-// A serial poll: the status byte, 0 where the state was refused.
+// A serial poll: the status byte, 0 where the state was refused. No Result: `RefusedPoll` (crates/demand1) states
+// that 0.
 #[derive(Clone, Copy)]
 pub struct PollResult {
     pub status: u8,

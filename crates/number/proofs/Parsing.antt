@@ -17,8 +17,8 @@ use Rattle.split.proofs.Span.{span_le, rest_from}
 use Rattle.laws.proofs.Tests.{split}
 use Rattle.number.specs.Number.{minus, letter_e, begins, unsigned, all_digits, is_exponent, is_mantissa, has_exponent, is_number}
 use Rattle.number.specs.Value.{decimal_after, exact_of}
-use Rattle.number.specs.Parts.{quantity_of, read_of}
-use Rattle.number.specs.TextParts.{short_of, exponent_of, moved, digits_of, mantissa_of, with_exponent, unsigned_of}
+use Rattle.number.specs.Parts.{read_of}
+use Rattle.number.specs.TextParts.{are_digits, short_of, exponent_of, digits_of, mantissa_of, with_exponent, unsigned_of}
 
 -- one or two digits
 pub short_wrong : (t : List ℕ) → all_digits t ≡ false → None ≡ short_of t
@@ -75,22 +75,18 @@ unfolding exponent_of is_exponent short_of
 exponent_is x = split (leb 1 (length (unsigned x)) && (leb (length (unsigned x)) 2 && all_digits (unsigned x))) (λ e. rw e) (λ e. rw e)
 
 -- the digits before and after the point
-module _ (negative : Bool) (front back : List ℕ) (up down : ℕ) where
-  pub digits_few : length front + length back < 1 → None ≡ digits_of negative front back up down
-  unfolding digits_of
+module _ (front back : List ℕ) where
+  pub digits_few : length front + length back < 1 → false ≡ are_digits (front ++ back)
   digits_few h = rw (lt-leb 1 (length (front ++ back)) (omega (arith, length-append front back)))
 
-  pub digits_many : 15 < length front + length back → None ≡ digits_of negative front back up down
-  unfolding digits_of
+  pub digits_many : 15 < length front + length back → false ≡ are_digits (front ++ back)
   digits_many h = rw (lt-leb (length (front ++ back)) 15 (omega (arith, length-append front back)), and-false)
 
-  pub digits_wrong : all_digits (front ++ back) ≡ false → None ≡ digits_of negative front back up down
-  unfolding digits_of
+  pub digits_wrong : all_digits (front ++ back) ≡ false → false ≡ are_digits (front ++ back)
   digits_wrong e = rw (e, and-false, and-false)
 
   pub digits_right : 1 ≤ length front + length back → length front + length back ≤ 15 → all_digits (front ++ back) ≡ true →
-      digits_of negative front back up down ≡ Some (quantity_of (moved negative front back up down))
-  unfolding digits_of
+      true ≡ are_digits (front ++ back)
   digits_right g h e =
       rw (le-leb 1 (length (front ++ back)) (omega (arith, length-append front back)), le-leb (length (front ++ back)) 15 (omega (arith, length-append front back)), e)
 

@@ -44,12 +44,14 @@ abbrev pub moved : Bool → List ℕ → List ℕ → ℕ → ℕ → Exact
 moved negative front back up down =
     record { negative = negative; over = decimal (front ++ back) * 10 ^ up; under = 10 ^ (length back + down) }
 
+-- whether bytes are digits, at least one and at most the limit
+abbrev pub are_digits : List ℕ → Bool
+are_digits ds = leb 1 (length ds) && (leb (length ds) digit_limit && all_digits ds)
+
 -- the same of any bytes: no number unless they are digits, at least one and at most the limit
 unfoldable pub digits_of : Bool → List ℕ → List ℕ → ℕ → ℕ → Option Quantity
 digits_of negative front back up down =
-    cond (leb 1 (length (front ++ back)) && (leb (length (front ++ back)) digit_limit && all_digits (front ++ back)))
-    (Some (quantity_of (moved negative front back up down)))
-    None
+    cond (are_digits (front ++ back)) (Some (quantity_of (moved negative front back up down))) None
 
 -- a text without sign and exponent, divided at its point
 unfoldable pub mantissa_of : Bool → List ℕ → ℕ → ℕ → Option Quantity

@@ -40,45 +40,55 @@ pub struct Range {
     pub whole: bool,
 }
 
-// Whether the number is in the range, tested on its exact value.
-fn fits(range: Range, q: Quantity) -> bool
-    requires { q.whole < cap }
-    ensures { result ≡ fits_range range q }
-{
-    let bias = u64::from(range.bias);
-    let low = u64::from(range.low);
-    let high = u64::from(range.high);
-    let exact = u64::from(q.exact);
-    if q.negative {
-        return low + q.whole + 1 <= bias + exact && bias <= high + q.whole;
-    }
-    low <= bias + q.whole && bias + q.whole + 1 <= high + exact
+// A number whose whole part is below CAP, so that it is tested and rounded in 64 bits.
+#[derive(Clone, Copy)]
+struct Amount {
+    // The number.
+    quantity: Quantity,
+    // Its whole part is below CAP.
+    ghost small: { quantity.whole < cap },
 }
 
-// The multiple of the step nearest to the number without its sign, halves up; 0 for step 0.
-fn round_to(q: Quantity, step: u32) -> u64
-    requires { q.whole < cap }
-    ensures { (result ≡ rounded_to step q) × (result ≤ q.whole + step) }
-{
-    if step == 0 {
-        return 0;
+impl Amount {
+    // Whether it is in the range, tested on its exact value.
+    fn fits(self, range: Range) -> bool
+        ensures { result ≡ fits_range range self.quantity }
+    {
+        let q = self.quantity;
+        let bias = u64::from(range.bias);
+        let low = u64::from(range.low);
+        let high = u64::from(range.high);
+        let exact = u64::from(q.exact);
+        if q.negative {
+            return low + q.whole + 1 <= bias + exact && bias <= high + q.whole;
+        }
+        low <= bias + q.whole && bias + q.whole + 1 <= high + exact
     }
-    let s = u64::from(step);
-    let up = s <= 2 * (q.whole % s) + u64::from(q.half);
-    (q.whole / s + u64::from(up)) * s
-}
 
-// The number rounded to the range's step, bias added.
-fn placed(range: Range, q: Quantity) -> u64
-    requires { q.whole < cap }
-    ensures { result ≡ placed_in range q }
-{
-    let bias = u64::from(range.bias);
-    let n = round_to(q, range.step);
-    if q.negative {
-        bias.saturating_sub(n)
-    } else {
-        bias + n
+    // The multiple of the step nearest to it without its sign, halves up; 0 for step 0.
+    fn round_to(self, step: u32) -> u64
+        ensures { (result ≡ rounded_to step self.quantity) × (result ≤ self.quantity.whole + step) }
+    {
+        if step == 0 {
+            return 0;
+        }
+        let q = self.quantity;
+        let s = u64::from(step);
+        let up = s <= 2 * (q.whole % s) + u64::from(q.half);
+        (q.whole / s + u64::from(up)) * s
+    }
+
+    // It rounded to the range's step, bias added.
+    fn placed(self, range: Range) -> u64
+        ensures { result ≡ placed_in range self.quantity }
+    {
+        let bias = u64::from(range.bias);
+        let n = self.round_to(range.step);
+        if self.quantity.negative {
+            bias.saturating_sub(n)
+        } else {
+            bias + n
+        }
     }
 }
 
@@ -87,8 +97,12 @@ fn placed(range: Range, q: Quantity) -> u64
 pub fn take(q: Quantity, range: Range) -> Option<u32>
     ensures { result ≡ taken_of range q }
 {
-    if q.whole < CAP && fits(range, q) && (!range.whole || q.exact) {
-        return u32::try_from(placed(range, q)).ok();
+    if CAP <= q.whole {
+        return None;
+    }
+    let amount = Amount { quantity: q };
+    if amount.fits(range) && (!range.whole || q.exact) {
+        return u32::try_from(amount.placed(range)).ok();
     }
     None
 }

@@ -1,9 +1,9 @@
 // Number text as a quantity, read exactly: digit by digit, without numbers of more than 64 bits.
-ghost use Rattle.std.specs.Prelude.{◌≡◌, true, ◌++◌, ◌+◌, ◌*◌, ◌≤◌, min, length, get_or, drop, IfSome};
+ghost use Rattle.std.specs.Prelude.{◌≡◌, true, ◌++◌, ◌+◌, ◌*◌, ◌≤◌, min, length, get_or, drop, is_some, IfSome};
 ghost use Rattle.number.specs.Number.{minus, digit_zero, begins, unsigned, all_digits, digit_limit};
 ghost use Rattle.number.specs.Parts.{cap, quantity_of, read_of};
 ghost use Rattle.number.specs.TextParts.{digits_value, all_zero, moved, digits_of, mantissa_of, unsigned_of, up_most};
-ghost use Rattle.number.specs.TextParts.{short_of, exponent_of, short_most};
+ghost use Rattle.number.specs.TextParts.{are_digits, short_of, exponent_of, short_most};
 
 use super::{CAP, Quantity};
 
@@ -26,16 +26,6 @@ fn all_digits(s: &[u8]) -> bool
     s.iter().all(|b| b.is_ascii_digit())
 }
 
-// The digit at an index among the digits before and after the point: "0" past the last.
-fn digit_at(front: &[u8], back: &[u8], index: usize) -> u8
-    ensures { result ≡ get_or (front.now ++ back.now) index digit_zero }
-{
-    if index < front.len() {
-        return front[index];
-    }
-    back.get(index - front.len()).copied().unwrap_or(b'0')
-}
-
 // The number with one digit more at its end, at most CAP.
 fn grown(value: u64, digit: u8) -> u64
     requires { (value ≤ cap) × (digit ≤ 9) }
@@ -44,83 +34,109 @@ fn grown(value: u64, digit: u8) -> u64
     CAP.min(value * 10 + u64::from(digit))
 }
 
-// The number that the first `kept` digits write, at most CAP.
-fn whole_part(front: &[u8], back: &[u8], kept: usize) -> u64
-    requires { all_digits (front.now ++ back.now) ≡ true }
-    ensures { result ≡ min cap (digits_value (front.now ++ back.now) 0 kept) }
-{
-    let mut value = 0;
-    for index in 0..kept {
-        value = grown(value, digit_at(front, back, index) - b'0');
+// A number's digits, before and after its point.
+#[derive(Clone, Copy)]
+struct Digits<'a> {
+    // The digits before the point.
+    front: &'a [u8],
+    // The digits after the point.
+    back: &'a [u8],
+    // All bytes are digits.
+    ghost digits: { all_digits (front.now ++ back.now) ≡ true },
+    // They are not more than a number may have.
+    ghost few: { length front.now + length back.now ≤ digit_limit },
+}
+
+impl<'a> Digits<'a> {
+    // These bytes as digits: None unless they are digits, at least one and at most DIGIT_LIMIT.
+    fn of(front: &'a [u8], back: &'a [u8]) -> Option<Digits<'a>>
+        ensures { (is_some result ≡ are_digits (front.now ++ back.now))
+            × IfSome result (λ d. (d.front.now ≡ front.now) × (d.back.now ≡ back.now)) }
+    {
+        let n = front.len() + back.len();
+        if n < 1 || DIGIT_LIMIT < n || !all_digits(front) || !all_digits(back) {
+            return None;
+        }
+        Some(Digits { front, back })
     }
-    value
-}
 
-// Whether every digit from the index `from` on is "0".
-fn zero_from(front: &[u8], back: &[u8], from: usize) -> bool
-    ensures { result ≡ all_zero (drop from (front.now ++ back.now)) }
-{
-    front
-        .iter()
-        .chain(back.iter())
-        .skip(from)
-        .all(|b| *b == b'0')
-}
+    // The digit at an index: "0" past the last.
+    fn at(self, index: usize) -> u8
+        ensures { result ≡ get_or (self.entry.front.now ++ self.entry.back.now) index digit_zero }
+    {
+        if index < self.front.len() {
+            return self.front[index];
+        }
+        let behind = index - self.front.len();
+        self.back.get(behind).copied().unwrap_or(b'0')
+    }
 
-// The number with these digits before and after the point, once the point has moved `up` digits to the right and `down`
-// to the left.
-fn scaled(front: &[u8], back: &[u8], negative: bool, up: usize, down: usize) -> Quantity
-    requires { (all_digits (front.now ++ back.now) ≡ true)
-        × (length front.now + length back.now ≤ digit_limit) × (up ≤ up_most) }
-    ensures { result ≡ quantity_of (moved negative front.now back.now up down) }
-{
-    let point = front.len() + up;
-    if point < down {
-        return Quantity {
+    // The number that the first `kept` digits write, at most CAP.
+    fn whole_part(self, kept: usize) -> u64
+        ensures { result ≡ min cap (digits_value (self.entry.front.now ++ self.entry.back.now) 0 kept) }
+    {
+        let mut value = 0;
+        for index in 0..kept {
+            value = grown(value, self.at(index) - b'0');
+        }
+        value
+    }
+
+    // Whether every digit from the index `from` on is "0".
+    fn zero_from(self, from: usize) -> bool
+        ensures { result ≡ all_zero (drop from (self.entry.front.now ++ self.entry.back.now)) }
+    {
+        self.front
+            .iter()
+            .chain(self.back.iter())
+            .skip(from)
+            .all(|b| *b == b'0')
+    }
+
+    // The number with these digits, once the power has moved the point.
+    fn scaled(self, negative: bool, power: Power) -> Quantity
+        requires { power.up ≤ up_most }
+        ensures { result ≡ quantity_of (moved negative self.entry.front.now self.entry.back.now power.up power.down) }
+    {
+        let point = self.front.len() + power.up;
+        if point < power.down {
+            return Quantity {
+                negative,
+                whole: 0,
+                half: false,
+                exact: self.zero_from(0),
+            };
+        }
+        let kept = point - power.down;
+        Quantity {
             negative,
-            whole: 0,
-            half: false,
-            exact: zero_from(front, back, 0),
-        };
-    }
-    let kept = point - down;
-    Quantity {
-        negative,
-        whole: whole_part(front, back, kept),
-        half: b'5' <= digit_at(front, back, kept),
-        exact: zero_from(front, back, kept),
+            whole: self.whole_part(kept),
+            half: b'5' <= self.at(kept),
+            exact: self.zero_from(kept),
+        }
     }
 }
 
-// The same of any bytes: no number unless they are digits, at least one and at most DIGIT_LIMIT.
-fn read_digits(
-    front: &[u8],
-    back: &[u8],
-    negative: bool,
-    up: usize,
-    down: usize,
-) -> Option<Quantity>
-    requires { up ≤ up_most }
-    ensures { result ≡ digits_of negative front.now back.now up down }
+// The number of these bytes before and after the point, once the power has moved it: None unless they are digits.
+fn read_digits(front: &[u8], back: &[u8], negative: bool, power: Power) -> Option<Quantity>
+    requires { power.up ≤ up_most }
+    ensures { result ≡ digits_of negative front.now back.now power.up power.down }
 {
-    let n = front.len() + back.len();
-    if n < 1 || DIGIT_LIMIT < n || !all_digits(front) || !all_digits(back) {
-        return None;
-    }
-    Some(scaled(front, back, negative, up, down))
+    let digits = Digits::of(front, back)?;
+    Some(digits.scaled(negative, power))
 }
 
 // The text before "E", divided at its point.
-fn read_mantissa(m: &[u8], negative: bool, up: usize, down: usize) -> Option<Quantity>
-    requires { up ≤ up_most }
-    ensures { result ≡ mantissa_of negative m.now up down }
+fn read_mantissa(m: &[u8], negative: bool, power: Power) -> Option<Quantity>
+    requires { power.up ≤ up_most }
+    ensures { result ≡ mantissa_of negative m.now power.up power.down }
 {
     let p = split::span_of(m, b'.');
     if p < m.len() {
         let start = p + 1;
-        return read_digits(&m[..p], &m[start..], negative, up, down);
+        return read_digits(&m[..p], &m[start..], negative, power);
     }
-    read_digits(m, &[], negative, up, down)
+    read_digits(m, &[], negative, power)
 }
 
 // One or two digits as a number; None is another count or another byte.
@@ -169,9 +185,17 @@ fn read_unsigned(u: &[u8], negative: bool, decimals: usize) -> Option<Quantity>
     if e < u.len() {
         let start = e + 1;
         let power = read_exponent(&u[start..])?;
-        return read_mantissa(&u[..e], negative, decimals + power.up, power.down);
+        let moved = Power {
+            up: decimals + power.up,
+            down: power.down,
+        };
+        return read_mantissa(&u[..e], negative, moved);
     }
-    read_mantissa(u, negative, decimals, 0)
+    let moved = Power {
+        up: decimals,
+        down: 0,
+    };
+    read_mantissa(u, negative, moved)
 }
 
 // A text as a number, in units of 10^-decimals. None is no number.

@@ -60,7 +60,7 @@ fn decode_setting(part: &[u8], entry: usize) -> Option<u32> {
 }
 
 // The alteration that the arguments ask for. Bytes in hex are stored at the start of a buffer.
-pub fn decode_alteration<'b>(
+pub(crate) fn decode_alteration<'b>(
     arguments: &mut Arguments<'_>,
     buffer: &'b mut [u8],
 ) -> Option<Alteration<'b>> {

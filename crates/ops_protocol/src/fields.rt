@@ -1,9 +1,12 @@
 // The fields of a state that `dump` writes and `alter` changes, and the words for their values.
+ghost use Rattle.std.specs.Prelude.{◌≡◌, IfSome};
+ghost use Rattle.ops_protocol.specs.Words.{phase_word, range_word};
+
 use settings::FrequencyRange;
 use storage::Phase;
 
 // How many hex digits a word has.
-pub const WORD_DIGITS: usize = 8;
+pub(crate) const WORD_DIGITS: usize = 8;
 
 // A field of a state.
 #[derive(Clone, Copy, PartialEq, Eq)]
@@ -109,13 +112,15 @@ pub static FIELDS: [(&str, Field); 53] = [
 ];
 
 // The field with a name.
-pub fn field_of(name: &[u8]) -> Option<Field> {
+pub(crate) fn field_of(name: &[u8]) -> Option<Field> {
     let (_, field) = FIELDS.iter().find(|(known, _)| known.as_bytes() == name)?;
     Some(*field)
 }
 
 // The word for a phase.
-pub fn phase_word(phase: Phase) -> &'static str {
+pub fn phase_word(phase: Phase) -> &'static str
+    ensures { result.now ≡ phase_word phase }
+{
     match phase {
         Phase::Reset => "reset",
         Phase::Running => "running",
@@ -125,7 +130,9 @@ pub fn phase_word(phase: Phase) -> &'static str {
 }
 
 // The phase that a word stands for.
-pub fn phase_of(word: &[u8]) -> Option<Phase> {
+pub(crate) fn phase_of(word: &[u8]) -> Option<Phase>
+    ensures { IfSome result (λ phase. word.now ≡ phase_word phase) }
+{
     match word {
         b"reset" => Some(Phase::Reset),
         b"running" => Some(Phase::Running),
@@ -136,7 +143,9 @@ pub fn phase_of(word: &[u8]) -> Option<Phase> {
 }
 
 // The word for a frequency range.
-pub fn range_word(range: FrequencyRange) -> &'static str {
+pub fn range_word(range: FrequencyRange) -> &'static str
+    ensures { result.now ≡ range_word range }
+{
     match range {
         FrequencyRange::Upper => "upper",
         FrequencyRange::Lower => "lower",
@@ -144,7 +153,9 @@ pub fn range_word(range: FrequencyRange) -> &'static str {
 }
 
 // The frequency range that a word stands for.
-pub fn range_of(word: &[u8]) -> Option<FrequencyRange> {
+pub(crate) fn range_of(word: &[u8]) -> Option<FrequencyRange>
+    ensures { IfSome result (λ range. word.now ≡ range_word range) }
+{
     match word {
         b"upper" => Some(FrequencyRange::Upper),
         b"lower" => Some(FrequencyRange::Lower),

@@ -1,4 +1,7 @@
 // Operations: their names, and what the arguments of each say.
+ghost use Rattle.std.specs.Prelude.{length, IfSome};
+ghost use Rattle.ops_protocol.specs.Sizes.{FitsRoom};
+
 use crate::alter;
 use crate::alter::Alteration;
 use crate::arguments::Arguments;
@@ -65,7 +68,9 @@ fn decode_named<'b>(
     name: &[u8],
     arguments: &mut Arguments<'_>,
     buffer: &'b mut [u8],
-) -> Option<Operation<'b>> {
+) -> Option<Operation<'b>>
+    ensures { IfSome result (FitsRoom (length buffer.old)) }
+{
     let a = arguments;
     Some(match name {
         b"start" => Operation::Start(
@@ -91,7 +96,9 @@ fn decode_named<'b>(
 }
 
 // The operation that a text asks for. Bytes in hex are stored at the start of a buffer.
-pub fn decode_operation<'b>(text: &[u8], buffer: &'b mut [u8]) -> Option<Operation<'b>> {
+pub fn decode_operation<'b>(text: &[u8], buffer: &'b mut [u8]) -> Option<Operation<'b>>
+    ensures { IfSome result (FitsRoom (length buffer.old)) }
+{
     let mut arguments = Arguments::of(text);
     let name = arguments.next()?;
     let operation = decode_named(name, &mut arguments, buffer)?;

@@ -37,7 +37,7 @@ pub enum Refusal {
 pub type Outcome = Result<(), Refusal>;
 
 // Why a command of a line is refused, and where.
-#[derive(Clone, Copy)]
+#[derive(Clone, Copy, PartialEq, Eq)]
 pub struct PlacedRefusal {
     // The refusal.
     pub refusal: Refusal,

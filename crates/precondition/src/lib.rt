@@ -20,26 +20,13 @@ fn stays_within_limit(s: Settings, m: Acquisition, entry: usize, value: u32) -> 
 fn value_allowed(s: Settings, m: Acquisition, entry: usize, value: u32) -> bool
     ensures { result ≡ value_allowed s m entry value }
 {
-    if entry == settings::FREQ {
-        if settings::is_internal(s) {
-            return stays_within_limit(s, m, entry, value);
-        }
-        return false;
+    match entry {
+        settings::FREQ => settings::is_internal(s) && stays_within_limit(s, m, entry, value),
+        settings::HARM | settings::FMOD => stays_within_limit(s, m, entry, value),
+        settings::OFLT => settings::time_constant_stands(m.range, value),
+        settings::SEND => storage::is_reset(m.storage),
+        _ => true,
     }
-    if entry == settings::HARM {
-        return stays_within_limit(s, m, entry, value);
-    }
-    if entry == settings::FMOD {
-        return stays_within_limit(s, m, entry, value);
-    }
-    if entry == settings::OFLT {
-        let range = m.range;
-        return settings::time_constant_stands(range, value);
-    }
-    if entry == settings::SEND {
-        return storage::is_reset(m.storage);
-    }
-    true
 }
 
 // Whether a set is allowed.
@@ -48,9 +35,7 @@ fn set_allowed(s: Settings, m: Acquisition, a: SetArgument) -> bool
 {
     match a {
         SetArgument::Value(entry, value) => value_allowed(s, m, entry, value),
-        SetArgument::Pair(_, _, _) => true,
-        SetArgument::Enable(_, _) => true,
-        SetArgument::EnableBit(_, _, _) => true,
+        SetArgument::Pair(..) | SetArgument::Enable(..) | SetArgument::EnableBit(..) => true,
     }
 }
 
@@ -60,14 +45,10 @@ fn query_allowed(m: Acquisition, q: QueryArgument) -> bool
 {
     match q {
         QueryArgument::Trace(_, _, bin, count) => storage::holds(m.storage, bin, count),
-        QueryArgument::Value(_) => true,
-        QueryArgument::Pair(_) => true,
-        QueryArgument::Enable(_) => true,
-        QueryArgument::EnableBit(_, _) => true,
-        QueryArgument::Status(_) => true,
-        QueryArgument::StatusBit(_, _) => true,
-        QueryArgument::Identity => true,
-        QueryArgument::Points => true,
+        QueryArgument::Value(_) | QueryArgument::Pair(_) => true,
+        QueryArgument::Enable(_) | QueryArgument::EnableBit(..) => true,
+        QueryArgument::Status(_) | QueryArgument::StatusBit(..) => true,
+        QueryArgument::Identity | QueryArgument::Points => true,
     }
 }
 

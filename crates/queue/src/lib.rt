@@ -20,7 +20,7 @@ const BLOCK: usize = 16;
 // The bytes of a line that has not ended.
 #[derive(Clone, Copy)]
 pub struct Queue {
-    // The bytes that wait, then bytes that do not count.
+    // The bytes that wait, then bytes that do not count: a fixed room, since there is no heap.
     pub bytes: [u8; LINE],
     // How many bytes wait.
     pub len: usize,
@@ -184,7 +184,7 @@ fn block_ends_none(block: &[u8], port: u8) -> bool
         .fold(true, |none, b| none & !ends_line(port, *b))
 }
 
-// Whether no byte of these ends a line, tested by whole blocks.
+// Whether no byte of these ends a line, tested by whole blocks, and the rest as a shorter one.
 fn ends_none(bytes: &[u8], port: u8) -> bool
     ensures { result ≡ no_end port bytes.now }
 {

@@ -4,6 +4,7 @@ ghost use Rattle.format.specs.Text.{plain};
 ghost use Rattle.format.specs.Parts.{bytes_of, appended};
 ghost use Rattle.reply.specs.Text.{value_now, value_text, pair_text, status_now, status_of, identity_text};
 ghost use Rattle.reply.specs.Text.{text_of, terminator_of};
+ghost use Rattle.reply.specs.Reply.{terminated_text};
 
 use command::QueryArgument;
 use format::Text;
@@ -105,7 +106,7 @@ fn identity_text(serial: u32) -> Text
 }
 
 // A reply that is a text, without its end; none for a trace read.
-pub fn text_of(s: State, q: QueryArgument, waiting: bool) -> Text
+fn text_of(s: State, q: QueryArgument, waiting: bool) -> Text
     ensures { (bytes_of result ≡ text_of q s waiting) × (length (bytes_of result) ≤ 27) }
 {
     match q {
@@ -126,8 +127,15 @@ pub fn text_of(s: State, q: QueryArgument, waiting: bool) -> Text
 }
 
 // The byte that ends a reply on a port.
-pub fn terminator_of(port: u8) -> u8
+fn terminator_of(port: u8) -> u8
     ensures { result ≡ terminator_of port }
 {
     if port == state::RS232 { b'\r' } else { b'\n' }
+}
+
+// The text that a query replies, with the byte that ends it on the port.
+pub fn terminated_text(s: State, q: QueryArgument, waiting: bool) -> Text
+    ensures { bytes_of result ≡ terminated_text q s waiting }
+{
+    format::push(text_of(s, q, waiting), terminator_of(s.installation.port))
 }

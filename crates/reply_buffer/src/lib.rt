@@ -10,15 +10,16 @@ ghost use Rattle.reply_buffer.specs.Parts.{Sends, slot_of};
 use format::Text;
 use mnemonic::Form;
 
-// The text at the front of out, where it fits, and how many bytes it has; else nothing.
+// The text at the front of out, and how many bytes it has, where it fits; else nothing.
 pub fn send(t: Text, out: &mut [u8]) -> Option<usize>
     ensures { Sends (bytes_of t) result out.new out.old }
 {
-    let n = t.len.min(t.bytes.len());
+    let bytes = t.as_bytes();
+    let n = bytes.len();
     if out.len() < n {
         return None;
     }
-    out[..n].copy_from_slice(&t.bytes[..n]);
+    out[..n].copy_from_slice(bytes);
     Some(n)
 }
 
@@ -38,8 +39,7 @@ fn slot_of(slots: usize, place: u64) -> usize
 pub fn word_at(trace: &[u32], place: u64) -> u32
     ensures { result ≡ word_at trace.now place }
 {
-    let slot = slot_of(trace.len(), place);
-    trace.get(slot).copied().unwrap_or(0)
+    trace.get(slot_of(trace.len(), place)).copied().unwrap_or(0)
 }
 
 // A point's word as it is sent.
@@ -74,8 +74,8 @@ fn put_points(trace: &[u32], first: usize, count: usize, form: Form, out: &mut [
     }
 }
 
-// The points of a trace from an index on, as words or as floats, four bytes each, at the front of out where they fit,
-// and how many bytes they have; else nothing.
+// The points of a trace from an index on, as words or as floats, four bytes each, at the front of out, and how many
+// bytes they are, where they fit; else nothing.
 pub fn send_points(
     trace: &[u32],
     place: u64,

@@ -1,4 +1,3 @@
 -- Laws on the script check.
-pub mod Parts
 pub mod LoopStep
 pub mod Script

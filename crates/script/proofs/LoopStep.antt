@@ -1,60 +1,57 @@
 -- A turn of the loop over a line's commands. Assumes nothing.
-use Prim.Native.Nat.{ℕ, ◌+◌, ◌-◌, ◌<◌, ◌≤◌}
-use mathlib.Core.Path.{◌≡◌, sym, ap, ◌∙◌}
-use mathlib.Core.List.{List, ◌∷◌}
+use Prim.Native.Nat.{ℕ, ◌+◌, ◌≤◌}
+use mathlib.Core.Path.{◌≡◌, refl, ap, ◌∙◌}
+use mathlib.Core.List.{List, [], ◌∷◌}
 use native.Mathlib.Omega.{arith}
-use lib.ListN.{length, take, drop}
-use Rattle.std.specs.Prelude.{Err}
-use Rattle.split.specs.Divide.{span, parts}
-use Rattle.split.proofs.Span.{part_first, part_last, part_more}
+use lib.ListN.{length}
+use Rattle.std.proofs.Common.{Ok, Err}
 use Rattle.outcome.specs.declared.Refusal.{Refusal}
 use Rattle.outcome.specs.Code.{done}
 use Rattle.command.specs.Parsed.{parsed_of, Parsed}
-use Rattle.line_text.specs.Texts.{semicolon}
-use Rattle.outcome.specs.Answer.{passed, refused_at}
 use Rattle.extreme_courses.specs.Extremes.{text_refusal, text_after}
 use Rattle.extreme_courses.specs.declared.Model.{Model}
 use Rattle.extreme_courses.specs.declared.Extremes.{Extremes}
 use Rattle.script.specs.Check.{answer_at, texts_answer, texts_after}
-use Rattle.script.specs.Parts.{Checks}
+use Rattle.script.specs.Parts.{checked}
 
 -- what is left of the line answers from here what the whole answers from the start
-pub record OnWay (model : Model) (text : List ℕ) (b₀ : Extremes) (b : Extremes) (place a : ℕ) : Type 0 where
-  pub inside : a ≤ length text
-  pub report : texts_answer model 1 (parts semicolon text) b₀ ≡ texts_answer model place (parts semicolon (drop a text)) b
-  pub past : texts_after model (parts semicolon text) b₀ ≡ texts_after model (parts semicolon (drop a text)) b
-  pub counted : place ≤ a + 1
+pub record OnWay (model : Model) (texts : List (List ℕ)) (b₀ b : Extremes) (place : ℕ) (left : List (List ℕ))
+    : Type 0 where
+  pub report : texts_answer model 1 texts b₀ ≡ texts_answer model place left b
+  pub past : texts_after model texts b₀ ≡ texts_after model left b
+  pub counted : place + length left ≤ length texts + 1
 
-module _ {model : Model} {text : List ℕ} {b₀ b : Extremes} {place a : ℕ} (v : OnWay model text b₀ b place a)
-    (e : ℕ) (at-e : e ≡ a + span semicolon (drop a text)) (p : Parsed) (read : p ≡ parsed_of (take (e - a) (drop a text))) where
-  here : parts semicolon (drop a text) ≡ take (e - a) (drop a text) ∷ drop 1 (parts semicolon (drop a text))
-  here = part_first semicolon text a e v.inside at-e
+pub at_start : (model : Model) (texts left : List (List ℕ)) (b : Extremes) → left ≡ texts → OnWay model texts b b 1 left
+at_start model texts left b e = rw e (record { report = refl; past = refl; counted = omega arith })
 
-  answered : texts_answer model 1 (parts semicolon text) b₀ ≡ answer_at (text_refusal p b) place
-      (texts_answer model (place + 1) (drop 1 (parts semicolon (drop a text))) (text_after model p b))
-  unfolding texts_answer
-  answered = v.report ∙ ap (λ ts. texts_answer model place ts b) here ∙ rw read
+module _ {model : Model} {texts : List (List ℕ)} {b₀ b : Extremes} {place : ℕ} {left : List (List ℕ)}
+    (v : OnWay model texts b₀ b place left) where
+  -- none is left
+  pub ended : left ≡ [] → Ok b ≡ checked (texts_answer model 1 texts b₀) (texts_after model texts b₀)
+  unfolding checked texts_answer texts_after
+  ended e = rw (v.report, v.past, e)
 
-  went : texts_after model (parts semicolon text) b₀ ≡ texts_after model (drop 1 (parts semicolon (drop a text))) (text_after model p b)
-  unfolding texts_after
-  went = v.past ∙ ap (λ ts. texts_after model ts b) here ∙ rw read
+  module _ (text : List ℕ) (rest : List (List ℕ)) (more : left ≡ text ∷ rest) (p : Parsed)
+      (read : p ≡ parsed_of text) where
+    answered : texts_answer model 1 texts b₀
+        ≡ answer_at (text_refusal p b) place (texts_answer model (place + 1) rest (text_after model p b))
+    unfolding texts_answer
+    answered = v.report ∙ ap (λ ts. texts_answer model place ts b) more ∙ rw read
 
-  pub refused : (r : Refusal) (last : Extremes) → text_refusal p b ≡ Err r →
-      Checks model (parts semicolon text) b₀ (record { extremes = last; answer = refused_at r place })
-  unfolding answer_at
-  refused r last f =
-      record { report = sym (answered ∙ rw f); past = λ z. let n : ◌≡◌ {A = ℕ} 0 1 = cc in absurd (omega arith) }
+    went : texts_after model texts b₀ ≡ texts_after model rest (text_after model p b)
+    unfolding texts_after
+    went = v.past ∙ ap (λ ts. texts_after model ts b) more ∙ rw read
 
-  pub ending : text_refusal p b ≡ done → e ≡ length text →
-      Checks model (parts semicolon text) b₀ (record { extremes = text_after model p b; answer = passed })
-  unfolding answer_at texts_answer texts_after
-  ending f l =
-      let n = part_last semicolon text a e v.inside at-e l in
-      record { report = sym (answered ∙ rw (f, n)); past = λ z. sym (went ∙ rw n) }
+    -- a command is refused
+    pub refused : (r : Refusal) → text_refusal p b ≡ Err r →
+        Err (record { refusal = r; place = place }) ≡ checked (texts_answer model 1 texts b₀) (texts_after model texts b₀)
+    unfolding checked answer_at
+    refused r f = rw (answered, f)
 
-  pub again : text_refusal p b ≡ done → e < length text → OnWay model text b₀ (text_after model p b) (place + 1) (e + 1)
-  unfolding answer_at
-  again f l =
-      let c = v.counted in
-      let n = part_more semicolon text a e v.inside at-e l in
-      record { inside = omega arith; report = answered ∙ rw (f, n); past = went ∙ rw n; counted = omega arith }
+    -- none is
+    pub again : text_refusal p b ≡ done → OnWay model texts b₀ (text_after model p b) (place + 1) rest
+    unfolding answer_at
+    again f =
+        let c = v.counted in
+        let n = ap length more in
+        record { report = answered ∙ rw f; past = went; counted = omega arith }

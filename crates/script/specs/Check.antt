@@ -12,8 +12,7 @@ use Rattle.extreme_courses.specs.Model.{model_fits}
 use Rattle.extreme_courses.specs.declared.Model.{Model}
 use Rattle.extreme_courses.specs.Extremes.{before_line, text_refusal, text_after, start_extremes}
 use Rattle.extreme_courses.specs.declared.Extremes.{Extremes}
-use Rattle.verdict.specs.declared.Verdict.{Verdict}
-use Rattle.verdict.specs.declared.Verdict.TheVariants.{Fine, No}
+use Rattle.verdict.specs.Verdict.{Verdict, passes, objected_at}
 
 -- ---- a line
 
@@ -82,9 +81,9 @@ line_number i = suc i
 -- §13.7 and §13.8: what the check says of what it finds; §12.7 and §13.4: a script without a command is 7 at line 1,
 -- place 1
 abbrev pub verdict_of : Finding → Verdict
-verdict_of fine = Fine
-verdict_of no_command = No 1 1 NoReset
-verdict_of (stop i place r) = No (line_number i) place r
+verdict_of fine = passes
+verdict_of no_command = objected_at 1 1 NoReset
+verdict_of (stop i place r) = objected_at (line_number i) place r
 
 -- §13.1: the last line may lack its LF; no bytes after the last LF are no line
 unfoldable pub without_last : List (List ℕ) → List (List ℕ)
@@ -103,4 +102,4 @@ lines_of script = without_last (parts lf script)
 -- §13.2: 9 comes first, at line 0 and place 0; then the verdict on the lines
 unfoldable pub check_of : Model → List ℕ → Verdict
 check_of model script =
-    cond (model_fits model) (verdict_of (finding model (lines_of script) start_extremes)) (No 0 0 BadTraces)
+    cond (model_fits model) (verdict_of (finding model (lines_of script) start_extremes)) (objected_at 0 0 BadTraces)

@@ -1,71 +1,70 @@
 // The script check: whether any bench can refuse a command of a script, found without running it.
 #![tactic(auto)]
 
-ghost use Rattle.std.specs.Prelude.{◌≡◌, ◌≤◌, ◌<◌, length};
+ghost use Rattle.std.specs.Prelude.{◌≡◌, ◌<◌, length};
 ghost use Rattle.split.specs.Divide.{parts};
-ghost use Rattle.line_text.specs.Clean.{line_limit};
-ghost use Rattle.line_text.specs.Texts.{semicolon, texts_of};
-ghost use Rattle.extreme_courses.specs.Extremes.{before_line, start_extremes};
+ghost use Rattle.line_text.specs.Texts.{semicolon};
+ghost use Rattle.extreme_courses.specs.Extremes.{start_extremes};
 ghost use Rattle.verdict.specs.Numbers.{verdict_numbers};
 ghost use Rattle.script.specs.Check.{finding, verdict_of, lines_of, check_of};
-ghost use Rattle.script.specs.Parts.{Checks};
+ghost use Rattle.script.specs.Parts.{texts_checked, line_checked};
 
 use extreme_courses::Extremes;
 pub use extreme_courses::Model;
+use outcome::PlacedRefusal;
 pub use outcome::Refusal;
-use outcome::{Answer, PlacedRefusal};
-pub use verdict::{Verdict, packed_number};
+pub use verdict::{Objection, Verdict, packed_number};
 
-// A line's commands: the first refusal among them, and what is carried past them where there is none.
-#[derive(Clone, Copy)]
-pub struct LineCheck {
-    pub extremes: Extremes,
-    pub answer: Answer,
-}
+// No module can have traces of the capacity: said of the whole script, at line 0, place 0.
+const BAD_TRACES: Objection = Objection {
+    line: 0,
+    place: 0,
+    refusal: Refusal::BadTraces,
+};
+
+// A line of more bytes than a line may have: said of the whole line, at place 0.
+const LONG_LINE: PlacedRefusal = PlacedRefusal {
+    refusal: Refusal::LongScriptLine,
+    place: 0,
+};
+
+// A script without a command, which therefore does not begin with *RST: said at line 1, place 1.
+const NO_RESET: Objection = Objection {
+    line: 1,
+    place: 1,
+    refusal: Refusal::NoReset,
+};
+
+// A line's commands: what is carried past them, or the first refusal among them, with its place.
+type LineCheck = Result<Extremes, PlacedRefusal>;
 
 // The commands of a cleaned line, up to one that is refused.
 fn check_commands(model: Model, b: Extremes, text: &[u8]) -> LineCheck
     requires { length text.now < 257 }
-    ensures { Checks model (parts semicolon text.now) b result }
+    ensures { result ≡ texts_checked model (parts semicolon text.now) b }
 {
     let mut extremes = b;
     let mut place = 1;
-    let mut a = 0;
-    loop {
-        let e = split::end_of(text, b';', a);
-        let p = command::parse(&text[a..e]);
-        let outcome = extreme_courses::text_refusal(p, extremes);
-        if let Err(refusal) = outcome {
-            return LineCheck {
-                extremes,
-                answer: Err(PlacedRefusal { refusal, place }),
-            };
+    for part in text.split(|byte| *byte == b';') {
+        let p = command::parse(part);
+        if let Err(refusal) = extreme_courses::text_refusal(p, extremes) {
+            return Err(PlacedRefusal { refusal, place });
         }
         extremes = extreme_courses::text_after(model, p, extremes);
-        if e == text.len() {
-            return LineCheck {
-                extremes,
-                answer: Ok(()),
-            };
-        }
         place += 1;
-        a = e + 1;
     }
+    Ok(extremes)
 }
 
-// A line of at most 256 bytes, with what can happen before it.
+// A line, with what can happen before it.
 fn check_line(model: Model, b: Extremes, line: &[u8]) -> LineCheck
-    requires { length line.now ≤ line_limit }
-    ensures { Checks model (texts_of line.now) (before_line model b) result }
+    ensures { result ≡ line_checked model line.now b }
 {
+    if line_text::LINE < line.len() {
+        return Err(LONG_LINE);
+    }
     let c = line_text::clean(line);
-    let bytes = c.bytes;
-    let len = c.len;
-    check_commands(
-        model,
-        extreme_courses::before_line(model, b),
-        &bytes[0..len],
-    )
+    check_commands(model, extreme_courses::before_line(model, b), c.line())
 }
 
 // The lines of a script, up to one that is too long or refused.
@@ -74,26 +73,19 @@ fn check_lines(model: Model, script: &[u8]) -> Verdict
 {
     let mut extremes = extreme_courses::start_extremes();
     let mut line = 1;
-    let mut a = 0;
-    while a < script.len() {
-        let e = split::end_of(script, b'\n', a);
-        if line_text::LINE < e - a {
-            return Verdict::No(line, 0, Refusal::LongScriptLine);
-        }
-        let checked = check_line(model, extremes, &script[a..e]);
-        let answer = checked.answer;
-        if let Err(PlacedRefusal { refusal, place }) = answer {
-            return Verdict::No(line, place, refusal);
-        }
-        extremes = checked.extremes;
+    for text in script.split(|byte| *byte == b'\n') {
+        extremes = check_line(model, extremes, text).map_err(|first| Objection {
+            line,
+            place: first.place,
+            refusal: first.refusal,
+        })?;
         line += 1;
-        a = e + 1;
     }
-    let begun = extremes.begun;
-    if begun {
-        return Verdict::Fine;
+    if extremes.begun {
+        Ok(())
+    } else {
+        Err(NO_RESET)
     }
-    Verdict::No(1, 1, Refusal::NoReset)
 }
 
 // Whether a script can be refused in any course, run by a module of the model.
@@ -102,7 +94,8 @@ pub fn check(model: Model, script: &[u8]) -> Verdict
     ensures numbers { verdict_numbers result ≡ verdict_numbers (check_of model script.now) }
 {
     if extreme_courses::model_fits(model) {
-        return check_lines(model, script);
+        check_lines(model, script)
+    } else {
+        Err(BAD_TRACES)
     }
-    Verdict::No(0, 0, Refusal::BadTraces)
 }

@@ -3,6 +3,7 @@
 // check follows.
 use crate::operation;
 use lockin::{Event, Module, Refusal, Report};
+use outcome::PlacedRefusal;
 use terminal::Output;
 
 // The module's serial number.
@@ -103,9 +104,11 @@ impl Course {
 
     // Whether a line answers refusal 3 at the named place.
     fn is_refused(self, report: Report) -> bool {
-        let meaning = outcome::code_of(Refusal::NotAllowed);
-        let numbers = lockin::numbers_of(report);
-        numbers.refusal == meaning.number && numbers.place == self.place
+        report.answer
+            == Err(PlacedRefusal {
+                refusal: Refusal::NotAllowed,
+                place: self.place,
+            })
     }
 
     // Runs the course up to the named line, and gives whether that line answers refusal 3 at the named place.

@@ -12,7 +12,6 @@ use course::{Bench, Course};
 use outcome::Refusal;
 use settings::Settings;
 use terminal::Output;
-use verdict::Verdict;
 
 // The length of the longest trace.
 const SLOTS: usize = Settings::CAPACITY_MOST as usize;
@@ -80,9 +79,15 @@ fn main(rt: HostRuntime) {
     let bytes = terminal::first_bytes(&script, input.len);
     let verdict = check_input::limited_check(input.capacity, bytes);
     terminal::write_out(&rt, VerdictLine::of(verdict).text());
-    if let Verdict::No(line, place, refusal) = verdict {
-        if let Refusal::NotAllowed = refusal {
-            explain(&rt, input.capacity as usize, bytes, line, place);
+    if let Err(objection) = verdict {
+        if objection.refusal == Refusal::NotAllowed {
+            explain(
+                &rt,
+                input.capacity as usize,
+                bytes,
+                objection.line,
+                objection.place,
+            );
         }
     }
 }

@@ -14,6 +14,7 @@ mod table;
 
 pub use table::row_of;
 
+// The entries are numbers and no enum: `value_of`, `with_value` and `row_of` promise an answer past the table too.
 // The phase of the reference.
 pub const PHAS: usize = 0;
 
@@ -453,7 +454,7 @@ pub fn take_value(entry: usize, q: number::Quantity) -> Option<u32>
 }
 
 // Whether every value lies in its entry's range. No value ends the loop early: so it is unrolled whole, four values are
-// tested at once, and neither column is made in memory.
+// tested at once, and neither column is made in memory. By index: unrolled so, the tables are constants.
 fn in_ranges(s: Settings) -> bool
     ensures { result ≡ every
         (λ e. leb (row_of e).least (value_of s e) && leb (value_of s e) (row_of e).most) entries }

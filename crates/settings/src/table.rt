@@ -217,7 +217,7 @@ const MOST: [u32; ENTRIES] = [
     1, // TSTR
 ];
 
-// The lowest value of each entry that a state keeps.
+// The lowest value of each entry that a state keeps. Not one function with `mosts`: an array is no const parameter.
 pub fn leasts() -> [u32; ENTRIES]
     ensures { result ≡ map (λ row. row.least) table }
 {

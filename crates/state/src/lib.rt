@@ -24,7 +24,7 @@ pub const SERIAL_MOST: u32 = 99999;
 pub struct Installation {
     // The serial number, at most SERIAL_MOST.
     pub serial: u32,
-    // The port, RS232 or GPIB.
+    // The port, RS232 or GPIB: a number and no enum, since a state may come with a port that there is not (refusal 11).
     pub port: u8,
     // The points that each trace has room for.
     pub capacity: u32,

@@ -31,7 +31,7 @@ pub struct Storage {
     pub next: u32,
 }
 
-// The settings that storing goes by.
+// The settings that storing goes by: numbers, as `ticked_of` and `triggered_of` take those of any settings.
 #[derive(Clone, Copy)]
 pub struct Sampling {
     // SRAT: the rate, or EXTERNAL_RATE.
@@ -47,7 +47,7 @@ pub struct Sampling {
 pub struct StorageStep {
     // Storage after it.
     pub storage: Storage,
-    // Whether the latest pair is stored, in the slot `next` of the storage before.
+    // Whether the latest pair is stored, in the slot `next` of the storage before: no value stands beside it.
     pub stores: bool,
     // The LIA bits that it sets.
     pub bits: u8,

@@ -1,4 +1,6 @@
 // What a part of a text says: a decimal number, or a number in hex.
+ghost use Rattle.std.specs.Prelude.{◌≡◌, ◌<◌, ◌≤◌, length};
+ghost use Rattle.std.specs.Option.{IfSome, OnSome};
 
 // The value of a digit, in lower case where it is a letter.
 fn digit_value(b: u8) -> Option<u32> {
@@ -28,12 +30,16 @@ fn decode_digits<const BASE: u32>(digits: &[u8]) -> Option<u32> {
 }
 
 // A decimal number of at least one digit, at most this one.
-pub fn decode_decimal(digits: &[u8], most: u32) -> Option<u32> {
+pub fn decode_decimal(digits: &[u8], most: u32) -> Option<u32>
+    ensures { IfSome result (λ value. value ≤ most) }
+{
     decode_digits::<10>(digits).filter(|value| *value <= most)
 }
 
 // A number in hex of exactly `count` digits.
-pub fn decode_hex(digits: &[u8], count: usize) -> Option<u32> {
+pub fn decode_hex(digits: &[u8], count: usize) -> Option<u32>
+    ensures { OnSome result (length digits.now ≡ count) }
+{
     if digits.len() != count {
         return None;
     }

@@ -1,8 +1,11 @@
 // Bytes in lower-case hex.
+ghost use Rattle.std.specs.Prelude.{◌≤◌, length};
+ghost use Rattle.std.specs.Option.{IfSome};
+
 use crate::field::decode_hex;
 
 // The hex digit of a number's last four bits.
-pub fn digit_of(value: u8) -> u8 {
+fn digit_of(value: u8) -> u8 {
     match value % 16 {
         digit @ 0..=9 => b'0' + digit,
         digit => b'a' + (digit - 10),
@@ -10,14 +13,16 @@ pub fn digit_of(value: u8) -> u8 {
 }
 
 // Stores each byte as two hex digits.
-pub fn store_digits(digits: &mut [u8], bytes: &[u8]) {
+pub(crate) fn store_digits(digits: &mut [u8], bytes: &[u8]) {
     for (pair, b) in digits.chunks_exact_mut(2).zip(bytes) {
         pair.copy_from_slice(&[digit_of(b / 16), digit_of(*b)]);
     }
 }
 
 // The bytes that pairs of digits stand for, stored at the start of a buffer.
-fn decode_pairs<'b>(text: &[u8], buffer: &'b mut [u8]) -> Option<&'b [u8]> {
+fn decode_pairs<'b>(text: &[u8], buffer: &'b mut [u8]) -> Option<&'b [u8]>
+    ensures { IfSome result (λ bytes. length bytes.now ≤ length buffer.old) }
+{
     if text.len() % 2 == 1 {
         return None;
     }
@@ -29,7 +34,9 @@ fn decode_pairs<'b>(text: &[u8], buffer: &'b mut [u8]) -> Option<&'b [u8]> {
 }
 
 // The bytes that a text in hex stands for, `-` where there are none, stored at the start of a buffer.
-pub fn decode_bytes<'b>(text: &[u8], buffer: &'b mut [u8]) -> Option<&'b [u8]> {
+pub fn decode_bytes<'b>(text: &[u8], buffer: &'b mut [u8]) -> Option<&'b [u8]>
+    ensures { IfSome result (λ bytes. length bytes.now ≤ length buffer.old) }
+{
     match text {
         b"-" => Some(&[]),
         [] => None,

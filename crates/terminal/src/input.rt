@@ -1,5 +1,8 @@
 // Standard input: chunks of it, and its lines, each given as soon as its end is read.
+ghost use Rattle.std.specs.Prelude.{length};
+ghost use Rattle.std.specs.Option.{IfSome};
 ghost use Rattle.io.specs.Counts.{IsPrefixLen};
+ghost use Rattle.terminal.specs.Line.{FitsRoom};
 
 use crate::output::{bytes_from, first_bytes};
 use std::io::Read;
@@ -22,7 +25,9 @@ pub enum Line<'a> {
 }
 
 // The line that has the first `len` bytes of a buffer.
-fn line_of(buffer: &[u8], len: Option<usize>) -> Line<'_> {
+fn line_of(buffer: &[u8], len: Option<usize>) -> Line<'_>
+    ensures { FitsRoom (length buffer.now) result }
+{
     match len {
         Some(len) => Line::Bytes(first_bytes(buffer, len)),
         None => Line::TooLong,
@@ -78,7 +83,9 @@ impl<'a, R: Read> Lines<'a, R> {
 
     // The next line, stored at the start of a buffer; none where the input has ended. A proved loop has to end, so this
     // one counts its turns, up to a number that no run reaches.
-    pub fn next_line<'b>(&mut self, line: &'b mut [u8]) -> Option<Line<'b>> {
+    pub fn next_line<'b>(&mut self, line: &'b mut [u8]) -> Option<Line<'b>>
+        ensures { IfSome result (FitsRoom (length line.old)) }
+    {
         let mut len = Some(0);
         for _ in 0..u64::MAX {
             if !self.fill() {

@@ -1,5 +1,5 @@
 // Bytes for standard output, which wait in a buffer until they are written out, and parts of a text.
-ghost use Rattle.std.specs.Prelude.{◌≡◌, take, drop};
+ghost use Rattle.std.specs.Prelude.{◌≡◌, ◌≤◌, length, take, drop};
 
 use crate::hex;
 use std::fmt;
@@ -42,12 +42,16 @@ pub struct Output<'r, 'b, R: Print> {
 
 impl<'r, 'b, R: Print> Output<'r, 'b, R> {
     // Nothing waits in a buffer.
-    pub fn new(rt: &'r R, buffer: &'b mut [u8]) -> Self {
+    pub fn new(rt: &'r R, buffer: &'b mut [u8]) -> Self
+        ensures { result.len ≡ 0 }
+    {
         Output { rt, buffer, len: 0 }
     }
 
     // Writes out all bytes that wait. Where that fails they are gone.
-    pub fn flush(&mut self) {
+    pub fn flush(&mut self)
+        ensures { self.new.len ≡ 0 }
+    {
         let rt = self.rt;
         let len = self.len;
         write_out(rt, first_bytes(self.buffer, len));
@@ -55,7 +59,9 @@ impl<'r, 'b, R: Print> Output<'r, 'b, R> {
     }
 
     // Writes a byte.
-    pub fn byte(&mut self, b: u8) {
+    pub fn byte(&mut self, b: u8)
+        ensures { self.new.len ≤ length self.new.buffer.now }
+    {
         if self.buffer.len() <= self.len {
             self.flush();
         }
@@ -96,7 +102,9 @@ impl<'r, 'b, R: Print> Output<'r, 'b, R> {
     }
 
     // Writes a line's end, and writes out all bytes that wait.
-    pub fn end_line(&mut self) {
+    pub fn end_line(&mut self)
+        ensures { self.new.len ≡ 0 }
+    {
         self.byte(b'\n');
         self.flush();
     }

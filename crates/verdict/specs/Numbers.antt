@@ -1,8 +1,7 @@
 -- The script check's verdict in numbers: §13.7 and §13.8.
-use Rattle.std.specs.Prelude.{ℕ}
+use Rattle.std.specs.Prelude.{ℕ, Ok, Err}
 use Rattle.outcome.specs.Code.{code_of}
-use Rattle.verdict.specs.declared.Verdict.{Verdict}
-use Rattle.verdict.specs.declared.Verdict.TheVariants.{Fine, No}
+use Rattle.verdict.specs.Verdict.{Verdict}
 
 -- §13.7 and §13.8: what the script check says
 pub data VerdictNumbers : Type 0 where
@@ -13,5 +12,5 @@ pub data VerdictNumbers : Type 0 where
 
 -- §13.7 and §13.8: each verdict in numbers, its refusal by its number; the promise of the script check uses it
 unfoldable pub verdict_numbers : Verdict → VerdictNumbers
-verdict_numbers Fine = ok
-verdict_numbers (No line place refusal) = no line place (code_of refusal).number
+verdict_numbers (Ok u) = ok
+verdict_numbers (Err o) = no o.line o.place (code_of o.refusal).number

@@ -1,8 +1,7 @@
 -- The script check's verdict as one number, for a console in C: §14.4.
-use Rattle.std.specs.Prelude.{ℕ, ◌+◌, ◌-◌, ◌*◌, ◌/◌, ◌%◌, ◌^◌, min}
+use Rattle.std.specs.Prelude.{ℕ, ◌+◌, ◌-◌, ◌*◌, ◌/◌, ◌%◌, ◌^◌, min, Ok, Err}
 use Rattle.outcome.specs.Code.{code_of}
-use Rattle.verdict.specs.declared.Verdict.{Verdict}
-use Rattle.verdict.specs.declared.Verdict.TheVariants.{Fine, No}
+use Rattle.verdict.specs.Verdict.{Verdict}
 
 -- §14.4: the largest line of the number; one past it counts as this, so that every verdict has a number of 64 bits
 abbrev pub line_most : ℕ
@@ -18,8 +17,8 @@ packed line place number = min line line_most * 2 ^ 24 + min place place_most * 
 
 -- §14.4: the number of each verdict, by its refusal's number; 0 where nothing is refused
 unfoldable pub packed_number : Verdict → ℕ
-packed_number Fine = 0
-packed_number (No line place refusal) = packed line place (code_of refusal).number
+packed_number (Ok u) = 0
+packed_number (Err o) = packed o.line o.place (code_of o.refusal).number
 
 -- §14.4: the line that a number holds
 abbrev pub line_read : ℕ → ℕ

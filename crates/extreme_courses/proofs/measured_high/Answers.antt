@@ -11,4 +11,4 @@ pub returns : goal.returns
 unfolding measured_high
 returns c =
     let external = sym c.is_internal.ensures ∙ c.if-is_internal.false in
-    rw (c.range_settled.ensures, c.highest.ensures, c.value_of.ensures, external)
+    rw (c.range_settled.ensures, c.highest-external.ensures, c.value_of.ensures, external)

@@ -12,8 +12,8 @@ use Rattle.line.proofs.Sized.{Sized}
 use Rattle.line.proofs.MustFit.{must_pass}
 use Rattle.line.proofs.fits.Goals as goal
 
-pub returns-then-sure : goal.returns-then-sure
-returns-then-sure c one two =
+pub returns-then-must_fit : goal.returns-then-must_fit
+returns-then-must_fit c one two =
     let a = c.args in
     let known = c.well_formed.0 in
     let fit : (entry : ℕ) → Fits w32 (value_of a.s.settings entry) = λ entry. search rules in
@@ -32,5 +32,5 @@ returns-then-sure c one two =
             errors = omega (arith, known);
           };
     } in
-    let sure = sym c.must_fit-sure.ensures ∙ c.if-sure.true in
-    sym (ap not (must_pass a.line.now a.room a.s one two sized sure))
+    let sure = sym c.must_fit.ensures ∙ c.if-must_fit.true in
+    c.if-must_fit.true ∙ sym (ap not (must_pass a.line.now a.room a.s one two sized sure))

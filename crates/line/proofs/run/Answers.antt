@@ -1,62 +1,50 @@
 -- `line::run` meets its contract: what is left of the line does what the whole does. Assumes nothing.
-use Prim.Native.Nat.{◌<◌}
-use mathlib.Core.Path.{refl, ◌∙◌}
+use mathlib.Core.List.{◌∷◌}
+use mathlib.Core.Path.{◌≡◌, ap, ◌∙◌}
 use native.Mathlib.Omega.{arith}
 use lib.ListN.{length}
-use Rattle.line.proofs.LoopStep.{stopped, ending, again}
+use borrow.Author.Rules.{rules}
+use borrow.Author.Tests.{tests}
+use Rattle.line_text.specs.Texts.{semicolon}
+use Rattle.split.proofs.Counted.{parts-length}
+use Rattle.split.proofs.Iterated.{left, left_all, left_none, left_some}
+use Rattle.line.proofs.LoopStep.{at_start, ended, stopped, again}
 use Rattle.line.proofs.run.Goals as goal
+use Rattle.line.proofs.run.Goals.{In-Some}
 
-pub loop-p-init : goal.loop-p-init
-loop-p-init c =
-    record {
-      inside = omega arith;
-      same = refl;
-      rest = refl;
-      fits = omega arith;
-      long = refl;
-      long-one = refl;
-      long-two = refl;
-      counted = omega arith;
-    }
+pub loop-part-init : goal.loop-part-init
+loop-part-init c =
+    let a = c.args in
+    let split = c.split-part-items in
+    let all = left_all semicolon split.result a.text.now split.ensures.rest split.ensures.done in
+    at_start _ _ a.s a.one.now a.two.now a.reply.now _ (c.start-p.ensures a.one.now a.two.now)
+    (ap (left semicolon) c.into_iter-part-iterator.ensures.into_iter_gives ∙ all)
 
-pub shape_of-one-then-dropped : goal.shape_of-one-then-dropped
-shape_of-one-then-dropped c = c.step-next.auto.one ∙ c.loop-p.invariant.long-one
+-- the part is the first of those left
+one_more : (c : In-Some) →
+    left semicolon c.loop-part.part-iterator ≡ c.in-Some.part.now ∷ left semicolon c.next.new.self
+one_more c =
+    left_some semicolon c.loop-part.part-iterator c.next.new.self c.in-Some.part c.in-Some.ensures.steps
+    (λ b r q k. search (rules, tests))
 
-pub shape_of-two-then-dropped : goal.shape_of-two-then-dropped
-shape_of-two-then-dropped c = c.step-next.auto.two ∙ c.loop-p.invariant.long-two
+pub step-p-requires : goal.step-p-requires
+step-p-requires c =
+    let more = one_more (goal.at.step-p-requires c).In-Some in
+    let v = c.loop-part.invariant in
+    (v.fits, omega (arith, ap length more, v.counted, parts-length semicolon c.args.text.now, c.requires))
 
-pub shape_of-reply-then-dropped : goal.shape_of-reply-then-dropped
-shape_of-reply-then-dropped c = c.step-next.auto.reply ∙ c.loop-p.invariant.long
+pub returns-then-p : goal.returns-then-p
+returns-then-p c =
+    let more = one_more (goal.at.returns-then-p c).In-Some in
+    stopped c.loop-part.invariant _ _ more c.step-p.result c.step-p.new.one c.step-p.new.two c.step-p.new.reply
+    c.step-p.ensures.meets c.step-p.ensures.at_in_bounds.0 c.step-p.ensures.at_in_bounds.1 c.if-p.true
 
-pub returns-then-dropped : goal.returns-then-dropped
-returns-then-dropped c =
-    stopped c.loop-p.invariant c.end_of-e.result c.end_of-e.ensures.value c.step-next.result
-    c.step-next.new.one c.step-next.new.two c.step-next.new.reply c.step-next.ensures.meets
-    c.step-next.ensures.at_in_bounds.0
-    c.step-next.ensures.at_in_bounds.1 c.if-dropped.true
+pub loop-part-preserved : goal.loop-part-preserved
+loop-part-preserved c =
+    let more = one_more (goal.at.loop-part-preserved c).In-Some in
+    again c.loop-part.invariant _ _ more c.step-p.result c.step-p.new.one c.step-p.new.two c.step-p.new.reply
+    c.step-p.ensures.meets c.step-p.ensures.at_in_bounds.0 c.step-p.ensures.at_in_bounds.1 c.if-p.false
+    c.step-p.auto.reply c.step-p.auto.one c.step-p.auto.two c.step-p.ensures.at_in_bounds.2
 
-pub shape_of-one-then-e-text : goal.shape_of-one-then-e-text
-shape_of-one-then-e-text c = c.step-next.auto.one ∙ c.loop-p.invariant.long-one
-
-pub shape_of-two-then-e-text : goal.shape_of-two-then-e-text
-shape_of-two-then-e-text c = c.step-next.auto.two ∙ c.loop-p.invariant.long-two
-
-pub shape_of-reply-then-e-text : goal.shape_of-reply-then-e-text
-shape_of-reply-then-e-text c = c.step-next.auto.reply ∙ c.loop-p.invariant.long
-
-pub returns-then-e-text : goal.returns-then-e-text
-returns-then-e-text c =
-    ending c.loop-p.invariant c.end_of-e.result c.end_of-e.ensures.value c.step-next.result
-    c.step-next.new.one c.step-next.new.two c.step-next.new.reply c.step-next.ensures.meets
-    c.step-next.ensures.at_in_bounds.0
-    c.step-next.ensures.at_in_bounds.1 c.if-dropped.false c.if-e-text.true
-
-pub loop-p-preserved : goal.loop-p-preserved
-loop-p-preserved c =
-    let args = c.args in
-    let l : c.end_of-e.result < length args.text.now = omega arith in
-    again c.loop-p.invariant c.end_of-e.result c.end_of-e.ensures.value c.step-next.result
-    c.step-next.new.one c.step-next.new.two c.step-next.new.reply c.step-next.ensures.meets
-    c.step-next.ensures.at_in_bounds.0
-    c.step-next.ensures.at_in_bounds.1 c.if-dropped.false l c.step-next.auto.reply c.step-next.auto.one
-    c.step-next.auto.two c.step-next.ensures.at_in_bounds.2
+pub returns : goal.returns
+returns c = ended c.loop-part.invariant (left_none semicolon c.loop-part.part-iterator c.in-None.ensures.steps.0)

@@ -8,7 +8,7 @@ use borrow.Author.Tests.{lt-ltb, le-ltb}
 use Rattle.std.specs.Prelude.{Some, None, Result, Ok, Err}
 use Rattle.std.specs.Result.{OkIff, result_ok}
 use Rattle.number.specs.Parts.{taken_of, value_in, largest}
-use Rattle.number.proofs.take.Goals.{else-q-lt-CAP-via-then-q-lt-CAP+then-fits+else-q, then-not-range, else-not-range, else-q-lt-CAP-via-then-q-lt-CAP+else-fits, else-q-lt-CAP-via-else-q-lt-CAP}
+use Rattle.number.proofs.take.Goals.{else-fits-via-then-fits+else-q, else-fits-via-else-fits, then-not-range, else-not-range}
 use Rattle.number.proofs.take.Goals as goal
 
 -- a number as one of 32 bits
@@ -26,18 +26,21 @@ returns-then-q c =
     ] in
     c.ok.ensures.value
     ∙ in_word c.try_from.result c.placed.result c.try_from.ensures
-    ∙ rw (c.placed.ensures, lt-ltb _ _ c.if-q-lt-CAP.true, ← c.fits.ensures, c.if-fits.true, w, c.if-q.true)
+    ∙ rw (c.placed.ensures, lt-ltb _ _ c.if-q-ge-CAP.false, ← c.fits.ensures, c.if-fits.true, w, c.if-q.true)
+
+pub returns-then-q-ge-CAP : goal.returns-then-q-ge-CAP
+unfolding taken_of
+returns-then-q-ge-CAP c = rw (le-ltb _ _ c.if-q-ge-CAP.true)
 
 pub returns : goal.returns
 unfolding taken_of
-returns c = elim c.else-q-lt-CAP.branch [
-  | else-q-lt-CAP-via-then-q-lt-CAP+then-fits+else-q w ↦
+returns c = elim c.else-fits.branch [
+  | else-fits-via-then-fits+else-q w ↦
       let a = c.args in
       let whole : (not a.range.whole || a.q.exact) ≡ w.if-not-range.value = elim w.if-not-range.branch [
         | then-not-range v ↦ rw v.if-not-range.true (sym (v.value-is ∙ v.if-not-range.true))
         | else-not-range v ↦ rw (v.if-not-range.false, v.value-is)
       ] in
       rw (whole, w.if-q.false, and-false, and-false)
-  | else-q-lt-CAP-via-then-q-lt-CAP+else-fits w ↦ rw (← w.fits.ensures, w.if-fits.false, and-false)
-  | else-q-lt-CAP-via-else-q-lt-CAP w ↦ rw (le-ltb _ _ w.if-q-lt-CAP.false)
+  | else-fits-via-else-fits w ↦ rw (← c.fits.ensures, w.if-fits.false, and-false)
 ]

@@ -1,4 +1,5 @@
 -- `precondition::set_allowed` meets its contract. Assumes nothing.
+use borrow.Author.Rules.{rules}
 use Rattle.precondition.specs.Allowed.{set_allowed}
 use Rattle.precondition.proofs.set_allowed.Goals as goal
 
@@ -8,12 +9,4 @@ returns-in-Value c = rw (c.value_allowed.ensures, c.in-Value.is)
 
 pub returns-in-Pair : goal.returns-in-Pair
 unfolding set_allowed
-returns-in-Pair c = rw c.in-Pair.is
-
-pub returns-in-Enable : goal.returns-in-Enable
-unfolding set_allowed
-returns-in-Enable c = rw c.in-Enable.is
-
-pub returns-in-EnableBit : goal.returns-in-EnableBit
-unfolding set_allowed
-returns-in-EnableBit c = rw c.in-EnableBit.is
+returns-in-Pair c = search rules

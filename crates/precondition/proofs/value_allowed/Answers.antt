@@ -1,72 +1,32 @@
--- `precondition::value_allowed` meets its contract. Assumes nothing.
-use borrow.Author.Tests.{eq-eqb, ne_eqb}
+-- `precondition::value_allowed` meets its contract, entry by entry. Assumes nothing.
 use mathlib.Core.Path.{sym, ◌∙◌}
+use borrow.Author.Rules.{rules}
+use borrow.Author.Tests.{tests}
 use Rattle.precondition.specs.Allowed.{value_allowed}
 use Rattle.precondition.proofs.value_allowed.Goals as goal
 
 pub returns-then-is_internal : goal.returns-then-is_internal
 unfolding value_allowed
 returns-then-is_internal c =
-    simp (
-      c.stays_within_limit.ensures,
-      sym c.is_internal.ensures ∙ c.if-is_internal.true,
-      eq-eqb _ _ c.if-entry-eq-FREQ.true,
-    )
+    rw (c.stays_within_limit.ensures, c.in-2.is, sym c.is_internal.ensures ∙ c.if-is_internal.true)
 
-pub returns-then-entry-eq-FREQ : goal.returns-then-entry-eq-FREQ
+pub returns-else-is_internal : goal.returns-else-is_internal
 unfolding value_allowed
-returns-then-entry-eq-FREQ c =
-    simp (sym c.is_internal.ensures ∙ c.if-is_internal.false, eq-eqb _ _ c.if-entry-eq-FREQ.true)
+returns-else-is_internal c =
+    rw (c.in-2.is, sym c.is_internal.ensures ∙ c.if-is_internal.false) c.if-is_internal.false
 
-pub returns-then-entry-eq-HARM : goal.returns-then-entry-eq-HARM
+pub returns-in-4 : goal.returns-in-4
 unfolding value_allowed
-returns-then-entry-eq-HARM c =
-    rw (
-      c.stays_within_limit-then-entry-eq-HARM.ensures,
-      eq-eqb _ _ c.if-entry-eq-HARM.true,
-      ne_eqb _ _ c.if-entry-eq-FREQ.false,
-    )
+returns-in-4 c = search (rules, tests)
 
-pub returns-then-entry-eq-FMOD : goal.returns-then-entry-eq-FMOD
+pub returns-in-14 : goal.returns-in-14
 unfolding value_allowed
-returns-then-entry-eq-FMOD c =
-    rw (
-      c.stays_within_limit-then-entry-eq-FMOD.ensures,
-      eq-eqb _ _ c.if-entry-eq-FMOD.true,
-      ne_eqb _ _ c.if-entry-eq-HARM.false,
-      ne_eqb _ _ c.if-entry-eq-FREQ.false,
-    )
+returns-in-14 c = rw (c.time_constant_stands.ensures, c.in-14.is)
 
-pub returns-then-entry-eq-OFLT : goal.returns-then-entry-eq-OFLT
+pub returns-in-32 : goal.returns-in-32
 unfolding value_allowed
-returns-then-entry-eq-OFLT c =
-    rw (
-      c.time_constant_stands.ensures,
-      eq-eqb _ _ c.if-entry-eq-OFLT.true,
-      ne_eqb _ _ c.if-entry-eq-FMOD.false,
-      ne_eqb _ _ c.if-entry-eq-HARM.false,
-      ne_eqb _ _ c.if-entry-eq-FREQ.false,
-    )
+returns-in-32 c = rw (c.is_reset.ensures, c.in-32.is)
 
-pub returns-then-entry-eq-SEND : goal.returns-then-entry-eq-SEND
+pub returns-in_default : goal.returns-in_default
 unfolding value_allowed
-returns-then-entry-eq-SEND c =
-    rw (
-      c.is_reset.ensures,
-      eq-eqb _ _ c.if-entry-eq-SEND.true,
-      ne_eqb _ _ c.if-entry-eq-OFLT.false,
-      ne_eqb _ _ c.if-entry-eq-FMOD.false,
-      ne_eqb _ _ c.if-entry-eq-HARM.false,
-      ne_eqb _ _ c.if-entry-eq-FREQ.false,
-    )
-
-pub returns : goal.returns
-unfolding value_allowed
-returns c =
-    rw (
-      ne_eqb _ _ c.if-entry-eq-SEND.false,
-      ne_eqb _ _ c.if-entry-eq-OFLT.false,
-      ne_eqb _ _ c.if-entry-eq-FMOD.false,
-      ne_eqb _ _ c.if-entry-eq-HARM.false,
-      ne_eqb _ _ c.if-entry-eq-FREQ.false,
-    )
+returns-in_default c = search (rules, tests)

@@ -1,5 +1,5 @@
--- `reply_buffer::put_points` meets its contract: what is written so far, then the points that are left, is the whole;
--- the measure is how many are left. Assumes nothing.
+-- `reply_buffer::put_points` meets its contract: what is written so far, then the points that are left, is the whole.
+-- Assumes nothing.
 use native.Mathlib.Nat.{add-zero, sub-zero}
 use Prim.Native.Nat.{◌+◌, ◌-◌, ◌*◌}
 use mathlib.Core.Path.{◌≡◌, refl, sym, ap, ◌∙◌}
@@ -10,7 +10,7 @@ use Rattle.reply_buffer.proofs.Points.{points_more}
 use Rattle.reply_buffer.proofs.put_points.Goals as goal
 
 pub loop-i-init : goal.loop-i-init
-loop-i-init c = (omega arith, rw (add-zero, sub-zero) refl, refl)
+loop-i-init c = (rw (add-zero, sub-zero) refl, refl)
 
 pub loop-i-preserved : goal.loop-i-preserved
 loop-i-preserved c =
@@ -19,15 +19,14 @@ loop-i-preserved c =
     let x = c.formed_word-sent in
     let e : x.result ≡ formed a.form (word_at a.trace.now (a.first + v.i)) =
     x.ensures ∙ ap (formed a.form) c.word_at-word.ensures in (
-      omega arith,
       rw c.put_word.ensures
           (points_more a.form a.trace.now v.out a.first v.i a.count x.result e (omega arith)
-          (omega arith) ∙ v.invariant.1),
-      c.put_word.auto.out ∙ v.invariant.2,
+          (omega arith) ∙ v.invariant.0),
+      c.put_word.auto.out ∙ v.invariant.1,
     )
 
 pub shape_of-out : goal.shape_of-out
-shape_of-out c = c.loop-i.invariant.2
+shape_of-out c = c.loop-i.invariant.1
 
 pub returns : goal.returns
 unfolding overwrite point_bytes
@@ -35,4 +34,4 @@ returns c =
     let v = c.loop-i in
     let a = c.args in
     let e : a.count - v.i ≡ 0 = omega arith in
-    sym (take-append-drop (4 * v.i) v.out) ∙ rw e at v.invariant.1
+    sym (take-append-drop (4 * v.i) v.out) ∙ rw e at v.invariant.0

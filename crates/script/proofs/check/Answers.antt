@@ -1,21 +1,22 @@
 -- `script::check` meets its contract: 9 first, then line by line. Assumes nothing.
-use mathlib.Core.Path.{◌≡◌, sym, ap, ◌∙◌}
+use mathlib.Core.Path.{sym, ap, ◌∙◌}
 use Rattle.verdict.specs.Numbers.{verdict_numbers}
-use Rattle.verdict.specs.declared.Verdict.TheVariants.{No}
-use Rattle.outcome.specs.declared.Refusal.TheVariants.{BadTraces}
 use Rattle.script.specs.Check.{check_of}
 use Rattle.script.proofs.check.Goals as goal
 
-pub returns-then-model_fits : goal.returns-then-model_fits
+pub returns-then-model_fits-clause-value : goal.returns-then-model_fits-clause-value
 unfolding check_of
-returns-then-model_fits c =
-    let e : c.check_lines.result ≡ check_of c.args.model c.args.script.now =
-    rw (sym c.model_fits.ensures ∙ c.if-model_fits.true) c.check_lines.ensures in
-    record { value = e; numbers = ap verdict_numbers e }
+returns-then-model_fits-clause-value c = rw (sym c.model_fits.ensures ∙ c.if-model_fits.true) c.check_lines.ensures
 
-pub returns : goal.returns
+pub returns-then-model_fits-clause-numbers : goal.returns-then-model_fits-clause-numbers
 unfolding check_of
-returns c =
-    let e : No 0 0 BadTraces ≡ check_of c.args.model c.args.script.now =
-    rw (sym c.model_fits.ensures ∙ c.if-model_fits.false) in
-    record { value = e; numbers = ap verdict_numbers e }
+returns-then-model_fits-clause-numbers c =
+    ap verdict_numbers (rw (sym c.model_fits.ensures ∙ c.if-model_fits.true) c.check_lines.ensures)
+
+pub returns-else-model_fits-clause-value : goal.returns-else-model_fits-clause-value
+unfolding check_of
+returns-else-model_fits-clause-value c = rw (sym c.model_fits.ensures ∙ c.if-model_fits.false)
+
+pub returns-else-model_fits-clause-numbers : goal.returns-else-model_fits-clause-numbers
+unfolding check_of
+returns-else-model_fits-clause-numbers c = rw (sym c.model_fits.ensures ∙ c.if-model_fits.false)

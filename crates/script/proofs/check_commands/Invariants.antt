@@ -1,11 +1,10 @@
 -- `script::check_commands` meets its contract: what is left of the line answers what the whole does. Assumes nothing.
-use Prim.Native.Nat.{◌+◌, ◌-◌}
-use lib.ListN.{length}
+use Rattle.line_text.specs.Texts.{semicolon}
+use Rattle.split.specs.Divide.{parts}
+use Rattle.split.proofs.Iterated.{left}
 use Rattle.script.proofs.LoopStep.{OnWay}
 use Rattle.script.proofs.check_commands.Given as goal
 
-abbrev pub invariant-loop-refusal : goal.invariant-loop-refusal
-invariant-loop-refusal l = OnWay l.model l.text l.initial.extremes l.extremes l.place l.a
-
-abbrev pub decreases-loop-refusal : goal.decreases-loop-refusal
-decreases-loop-refusal l = length l.text + 1 - l.a
+abbrev pub invariant-loop-part : goal.invariant-loop-part
+invariant-loop-part l =
+    OnWay l.model (parts semicolon l.text) l.initial.extremes l.extremes l.place (left semicolon l.part-iterator)

@@ -1,36 +1,47 @@
 -- `line::dry::run` meets its contract: what is left of the line comes to what the whole comes to. Assumes nothing.
-use Prim.Native.Nat.{◌<◌}
-use mathlib.Core.Path.{refl}
+use mathlib.Core.List.{◌∷◌}
+use mathlib.Core.Path.{◌≡◌, ap, ◌∙◌}
 use native.Mathlib.Omega.{arith}
 use lib.ListN.{length}
-use Rattle.line.specs.Line.{start_line}
-use Rattle.line.proofs.DryPass.{dry_stopped, dry_ending, dry_again}
+use borrow.Author.Rules.{rules}
+use borrow.Author.Tests.{tests}
+use Rattle.line_text.specs.Texts.{semicolon}
+use Rattle.split.proofs.Counted.{parts-length}
+use Rattle.split.proofs.Iterated.{left, left_all, left_none, left_some}
+use Rattle.line.proofs.DryPass.{dry_start, dry_ended, dry_stopped, dry_again}
 use Rattle.line.proofs.dry.run.Goals as goal
+use Rattle.line.proofs.dry.run.Goals.{In-Some}
 
-pub loop-p-init : goal.loop-p-init
-loop-p-init c =
-    record {
-      inside = omega arith;
-      fits = omega arith;
-      counted = omega arith;
-      reached = λ one two. start_line c.args.s one two;
-      here = λ one two. refl;
-      same = λ one two. refl;
-    }
+pub loop-part-init : goal.loop-part-init
+loop-part-init c =
+    let split = c.split-part-items in
+    let all = left_all semicolon split.result c.args.text.now split.ensures.rest split.ensures.done in
+    dry_start _ _ c.args.room c.args.s _ c.start-p.ensures
+    (ap (left semicolon) c.into_iter-part-iterator.ensures.into_iter_gives ∙ all)
 
-pub returns-then-dropped : goal.returns-then-dropped
-returns-then-dropped c =
-    dry_stopped c.loop-p.invariant c.end_of-e.result c.end_of-e.ensures.value c.step-next.result
-    c.step-next.ensures.value c.if-dropped.true
+-- the part is the first of those left
+one_more : (c : In-Some) →
+    left semicolon c.loop-part.part-iterator ≡ c.in-Some.part.now ∷ left semicolon c.next.new.self
+one_more c =
+    left_some semicolon c.loop-part.part-iterator c.next.new.self c.in-Some.part c.in-Some.ensures.steps
+    (λ b r q k. search (rules, tests))
 
-pub returns-then-e-text : goal.returns-then-e-text
-returns-then-e-text c =
-    dry_ending c.loop-p.invariant c.end_of-e.result c.end_of-e.ensures.value c.step-next.result
-    c.step-next.ensures.value c.if-dropped.false c.if-e-text.true
+pub step-p-requires : goal.step-p-requires
+step-p-requires c =
+    let more = one_more (goal.at.step-p-requires c).In-Some in
+    let v = c.loop-part.invariant in
+    (v.fits, omega (arith, ap length more, v.counted, parts-length semicolon c.args.text.now, c.requires))
 
-pub loop-p-preserved : goal.loop-p-preserved
-loop-p-preserved c =
-    let args = c.args in
-    let l : c.end_of-e.result < length args.text.now = omega arith in
-    dry_again c.loop-p.invariant c.end_of-e.result c.end_of-e.ensures.value c.step-next.result
-    c.step-next.ensures.value c.if-dropped.false l c.step-next.ensures.at_in_bounds.0 c.step-next.ensures.at_in_bounds.1
+pub returns-then-p : goal.returns-then-p
+returns-then-p c =
+    let more = one_more (goal.at.returns-then-p c).In-Some in
+    dry_stopped c.loop-part.invariant _ _ more _ c.step-p.ensures.value c.if-p.true
+
+pub loop-part-preserved : goal.loop-part-preserved
+loop-part-preserved c =
+    let more = one_more (goal.at.loop-part-preserved c).In-Some in
+    dry_again c.loop-part.invariant _ _ more _ c.step-p.ensures.value c.if-p.false
+    c.step-p.ensures.at_in_bounds.0 c.step-p.ensures.at_in_bounds.1
+
+pub returns : goal.returns
+returns c = dry_ended c.loop-part.invariant (left_none semicolon c.loop-part.part-iterator c.in-None.ensures.steps.0)

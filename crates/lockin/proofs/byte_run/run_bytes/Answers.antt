@@ -1,6 +1,6 @@
 -- `lockin::byte_run::run_bytes` meets its contract: what is left of the run does what the whole does. Assumes nothing.
 use Prim.Native.Nat.{◌<◌}
-use mathlib.Core.Path.{refl}
+use mathlib.Core.Path.{refl, ◌∙◌}
 use native.Mathlib.Omega.{arith}
 use lib.ListN.{length}
 use Rattle.lockin.proofs.WholeRun.{over, all_taken, stopped-run, one_more, again}
@@ -36,20 +36,29 @@ returns-then-at-run c =
     over args.run.now args.mark args.m _ _ _ _ _ _ c.pass_quiet-p.result
     (all_taken c.loop-p.invariant c.pass_quiet-p.result c.pass_quiet-p.ensures.goes_on c.if-at-run.true)
 
-pub next_byte-requires : goal.next_byte-requires
-next_byte-requires c = (
+pub next_byte-step-requires : goal.next_byte-step-requires
+next_byte-step-requires c = (
   rw c.pass_quiet-p.ensures.report_stays c.loop-p.invariant.fits,
   c.pass_quiet-p.ensures.onward.2,
   omega (arith, c.pass_quiet-p.ensures.onward.1, c.well_formed.1.0.1),
 )
 
-pub returns-in_default : goal.returns-in_default
-returns-in_default c =
+pub shape_of-one-then-step : goal.shape_of-one-then-step
+shape_of-one-then-step c = c.next_byte-step.auto.one ∙ c.loop-p.invariant.long-one
+
+pub shape_of-two-then-step : goal.shape_of-two-then-step
+shape_of-two-then-step c = c.next_byte-step.auto.two ∙ c.loop-p.invariant.long-two
+
+pub shape_of-reply-then-step : goal.shape_of-reply-then-step
+shape_of-reply-then-step c = c.next_byte-step.auto.reply ∙ c.loop-p.invariant.long
+
+pub returns-then-step : goal.returns-then-step
+returns-then-step c =
     let args = c.args in
     let inside : c.pass_quiet-p.result.taken < length args.run.now = omega arith in
-    over args.run.now args.mark args.m _ _ _ _ _ _ c.pass_quiet-p.result
+    over args.run.now args.mark args.m _ _ _ _ _ _ c.next_byte-step.result.progress
     (stopped-run c.loop-p.invariant c.pass_quiet-p.result c.pass_quiet-p.ensures.goes_on inside refl c.marked_at.ensures
-    c.in_default.ensures.next_byte refl)
+    c.next_byte-step.ensures.next_byte c.if-step.true)
 
 pub loop-p-smaller : goal.loop-p-smaller
 loop-p-smaller c =
@@ -57,7 +66,7 @@ loop-p-smaller c =
     let inside : c.pass_quiet-p.result.taken < length args.run.now = omega arith in
     let more = one_more c.loop-p.invariant c.pass_quiet-p.result c.pass_quiet-p.ensures.goes_on inside refl
     c.marked_at.ensures
-    c.in-Some.ensures.next_byte refl in
+    c.next_byte-step.ensures.next_byte c.if-step.false in
     omega (arith, more, c.pass_quiet-p.ensures.onward.0)
 
 pub loop-p-preserved : goal.loop-p-preserved
@@ -65,7 +74,7 @@ loop-p-preserved c =
     let args = c.args in
     let inside : c.pass_quiet-p.result.taken < length args.run.now = omega arith in
     again c.loop-p.invariant c.pass_quiet-p.result c.pass_quiet-p.ensures.goes_on inside refl c.marked_at.ensures
-    c.in-Some.ensures.next_byte
-    refl c.pass_quiet-p.ensures.onward.2 c.in-Some.ensures.length_in_bounds
-    c.next_byte.auto.reply c.next_byte.auto.one
-    c.next_byte.auto.two
+    c.next_byte-step.ensures.next_byte
+    c.if-step.false c.pass_quiet-p.ensures.onward.2 c.next_byte-step.ensures.length_in_bounds
+    c.next_byte-step.auto.reply c.next_byte-step.auto.one
+    c.next_byte-step.auto.two

@@ -23,8 +23,8 @@ returns-in_err-power c =
 pub slice_bounds-read_mantissa-end : goal.slice_bounds-read_mantissa-end
 slice_bounds-read_mantissa-end c = sym (length-take-le c.span_of-e.result c.args.u.now c.span_of-e.ensures.1)
 
-pub overflow_add-decimals : goal.overflow_add-decimals
-overflow_add-decimals c = omega (arith, c.requires, rw c.in_ok-power.was at c.read_exponent.ensures.1)
+pub overflow_add-moved : goal.overflow_add-moved
+overflow_add-moved c = omega (arith, c.requires, rw c.in_ok-power.was at c.read_exponent.ensures.1)
 
 pub returns-then-e-u : goal.returns-then-e-u
 unfolding with_exponent

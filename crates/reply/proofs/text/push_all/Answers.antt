@@ -11,14 +11,17 @@ use Rattle.reply.proofs.text.push_all.Goals as goal
 
 pub loop-b-init : goal.loop-b-init
 loop-b-init c =
-    let t = c.args.t in sym (added_none (bytes_of t) (text-length t.bytes t.len (search rules)))
+    let t = c.args.t in
+    sym (added_none (bytes_of t) (text-length t.bytes t.len (search rules)))
 
 pub loop-b-preserved : goal.loop-b-preserved
 loop-b-preserved c =
     let v = c.loop-b in
-    let bytes = c.args.bytes.now in c.push-text.ensures ∙ rw v.invariant (added_more _ bytes v.b-index (omega arith))
+    let bytes = c.args.bytes.now in
+    c.push-text.ensures ∙ rw v.invariant (added_more _ bytes v.b-index (omega arith))
 
 pub returns : goal.returns
 returns c =
     let v = c.loop-b in
-    let bytes = c.args.bytes.now in v.invariant ∙ rw (take_all v.b-index bytes (omega arith))
+    let bytes = c.args.bytes.now in
+    v.invariant ∙ rw (take_all v.b-index bytes (omega arith))

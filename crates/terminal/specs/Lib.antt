@@ -1,0 +1,2 @@
+-- What is said of text that is read.
+pub mod Line
