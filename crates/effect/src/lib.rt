@@ -74,6 +74,7 @@ fn unstored(storage: Storage) -> StorageStep
 }
 
 // What an action does to storage.
+#[inline(always)]
 fn storage_by(s: Storage, capacity: u32, by: Sampling, a: Action) -> StorageStep
     ensures { result ≡ storage_by a s capacity by }
 {
@@ -87,6 +88,7 @@ fn storage_by(s: Storage, capacity: u32, by: Sampling, a: Action) -> StorageStep
 }
 
 // What a command does to storage.
+#[inline(always)]
 pub fn storage_after(s: Settings, m: Acquisition, capacity: u32, kind: Kind) -> StorageStep
     ensures { result ≡ storage_after kind s m capacity }
 {

@@ -10,7 +10,7 @@ use lib.ListN.{length, length-append}
 use Rattle.command.specs.Parsed.{parsed_of}
 use Rattle.state.specs.declared.State.{State}
 use Rattle.line.specs.declared.Progress.{Progress}
-use Rattle.line.specs.Perform.{Effect, command_of}
+use Rattle.line.specs.Perform.{Effect, nothing, command_of}
 use Rattle.line.specs.Line.{Line, after_of, after_command, run_all, start_line}
 use Rattle.line.specs.Parts.{progress_after, progress_of}
 
@@ -23,6 +23,12 @@ unfolding after_command after_of
 dry_step room text p q e did got l here =
     let result = rw here at (did l.one l.two) in
     got l.one l.two ∙ ap₂ progress_after here result ∙ rw length-append
+
+-- one more command that is empty
+pub dry-empty : (room : ℕ) (p q : Progress) → ((one two : List ℕ) → q ≡ progress_after p (nothing p.state one two)) →
+    (l : Line) → p ≡ progress_of l → q ≡ progress_of (after_command room [] l)
+unfolding command_of parsed_of
+dry-empty room p q after l here = dry_step room [] p q (nothing p.state) (λ one two. refl) after l here
 
 -- what is left of the line comes from here to what the whole comes to from the start
 pub record OnDryWay (texts : List (List ℕ)) (room : ℕ) (s : State) (p : Progress) (left : List (List ℕ)) : Type 0 where

@@ -1,7 +1,7 @@
 -- A command's effect, by the test that decides it, and its reply, which fits the room. Assumes nothing.
 use Prim.Native.Nat.{ℕ, ◌<◌, ◌≤◌}
 use mathlib.Core.Bool.{Bool, true, false}
-use mathlib.Core.Path.{◌≡◌, ap}
+use mathlib.Core.Path.{◌≡◌, refl, ap}
 use mathlib.Core.List.{List}
 use native.Mathlib.Omega.{arith}
 use borrow.Author.Tests.{le-leb, lt-leb, leb-true}
@@ -10,6 +10,8 @@ use lib.ListN.{length}
 use Rattle.laws.proofs.Tests.{split}
 use Rattle.std.specs.Prelude.{Some, None, Ok, Err}
 use Rattle.outcome.specs.declared.Refusal.TheVariants.{NotAllowed, NoRoom}
+use Rattle.outcome.specs.Code.{done}
+use Rattle.outcome.specs.Answer.{Answer, first_of}
 use Rattle.command.specs.Parsed.{Parsed}
 use Rattle.command.specs.declared.Kind.{Kind}
 use Rattle.state.specs.declared.State.{State}
@@ -21,6 +23,12 @@ use Rattle.reply.specs.Reply.{reply_of}
 use Rattle.reply.specs.Parts.{bytes_said}
 use Rattle.line.specs.Perform.{refused_by, storage_step_by, done_by, performed, command_of}
 use Rattle.line.specs.Parts.{written_by}
+
+-- what refuses nothing leaves a line's answer
+pub answer-stays : (a : Answer) (n : ℕ) → a ≡ first_of a done n
+unfolding first_of
+answer-stays (Ok tt) n = refl
+answer-stays (Err e) n = refl
 
 -- one command, by the test that decides it
 module _ (room : ℕ) (waiting : Bool) (kind : Kind) (s : State) (one two : List ℕ) where
@@ -44,9 +52,9 @@ module _ (room : ℕ) (waiting : Bool) (kind : Kind) (s : State) (one two : List
 
       -- it is done
       pub as_planned : n ≤ room →
-          written_by (record { state = state_after kind s; reply = reply; step = storage_step_by kind s }) s one two
+          written_by (record { kind = kind; reply = reply; step = storage_step_by kind s }) s one two
           ≡ performed room waiting kind s one two
-      unfolding performed done_by written_by fits_in
+      unfolding performed done_by written_by state_after fits_in
       as_planned h =
           let e : leb (length (reply_of kind s waiting one two)) room ≡ true =
           le-leb (length (reply_of kind s waiting one two)) room (omega (arith, ap length said)) in

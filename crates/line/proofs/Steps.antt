@@ -1,17 +1,17 @@
 -- A command of a line, lent the reply room from the bytes already written onward. Assumes nothing.
 use Prim.Native.Nat.{ℕ, ◌-◌, ◌≤◌}
-use mathlib.Core.Path.{◌≡◌, sym, ap, ◌∙◌}
+use mathlib.Core.Path.{◌≡◌, refl, sym, ap, ◌∙◌}
 use mathlib.Core.List.{List, [], ◌++◌, append-nil}
 use native.Mathlib.Omega.{arith}
 use lib.Dec.{ltb}
-use lib.ListN.{length, take, drop, length-append, length-drop, drop_of_length-le}
+use lib.ListN.{length, take, drop, length-append, length-drop, drop_of_length-le, take-append-drop}
 use lib.Seq.{take_all, length-take-le}
 use Rattle.command.specs.Parsed.{parsed_of}
 use Rattle.reply_buffer.specs.Buffer.{overwrite}
 use Rattle.reply_buffer.specs.After.{Meets}
-use Rattle.reply_buffer.proofs.Over.{over_more, over-take, over-drop}
+use Rattle.reply_buffer.proofs.Over.{over_none, over_more, over-take, over-drop}
 use Rattle.line.specs.declared.Progress.{Progress}
-use Rattle.line.specs.Perform.{Effect, command_of}
+use Rattle.line.specs.Perform.{Effect, nothing, command_of}
 use Rattle.line.specs.Line.{after_of, after_command}
 use Rattle.line.specs.Parts.{progress_after, progress_of, line_reached}
 
@@ -45,6 +45,11 @@ module _ (reply : List ℕ) (at : ℕ) (h : at ≤ length reply) where
       simp (length-append, length-drop, length-take-le at reply h)
       (omega (arith, part_room, length-take-le at reply h))
 
+  -- the part as it was makes the room as it was
+  pub mended_same : mended reply at (part reply at) ≡ reply
+  mended_same =
+      ap (λ l. take at reply ++ l) (take-append-drop (length reply - at) (drop at reply)) ∙ take-append-drop at reply
+
 -- one more command, done in the part of the room behind the bytes already written
 pub step-holds : (p q : Progress) (text one two one' two' reply new : List ℕ) (e : Effect) → p.at ≤ length reply →
     e ≡ command_of (length reply - p.at) (ltb 0 p.at) (parsed_of text) p.state one two →
@@ -60,3 +65,13 @@ step-holds p q text one two one' two' reply new e h did first second out after =
       second = second;
       reply = mended_over reply p.at h e.out new out;
     })
+
+-- one more command that is empty
+pub empty-holds : (p q : Progress) (one two reply : List ℕ) → p.at ≤ length reply →
+    ((one two : List ℕ) → q ≡ progress_after p (nothing p.state one two)) →
+    Meets progress_of (after_command (length reply) [] (line_reached p one two reply)) q one two reply reply
+unfolding command_of parsed_of
+empty-holds p q one two reply h after =
+    rw (mended_same reply p.at h) at
+    (step-holds p q [] one two one two reply (part reply p.at) (nothing p.state one two) h refl refl refl
+    (sym (over_none (part reply p.at))) (after one two))

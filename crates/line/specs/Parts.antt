@@ -11,6 +11,7 @@ use Rattle.outcome.specs.Code.{done}
 use Rattle.outcome.specs.Answer.{first_of, drops}
 use Rattle.state.specs.Storing.{stored_in}
 use Rattle.state.specs.declared.State.{State}
+use Rattle.effect.specs.Effect.{state_by}
 use Rattle.reply.specs.Parts.{bytes_said}
 use Rattle.line.specs.Perform.{Effect, refused_by, nothing}
 use Rattle.line.specs.Line.{Line}
@@ -21,7 +22,7 @@ use Rattle.line.specs.declared.Progress.{Progress}
 unfoldable pub written_by : Plan → State → List ℕ → List ℕ → Effect
 written_by p s one two =
     record {
-      after = p.state;
+      after = state_by p.kind p.step s;
       one = stored_in p.step s s.latest.one one;
       two = stored_in p.step s s.latest.two two;
       out = bytes_said p.reply one two;

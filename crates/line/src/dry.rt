@@ -9,11 +9,12 @@ ghost use Rattle.line.specs.Perform.{command_of};
 ghost use Rattle.line.specs.Line.{Line, after_command, run_all, start_line};
 ghost use Rattle.line.specs.Parts.{effect_of, progress_of, texts_run};
 
-use crate::{Plan, Progress, Taken, after};
+use crate::{Plan, Progress, Taken, after, passed_over};
 use outcome::Refusal;
 use state::State;
 
 // What a command's text comes to, where `room` bytes are left for its reply: refused by 1, 2, 3 or 4, empty, or done.
+#[inline(always)]
 pub fn take_command(s: State, text: &[u8], waiting: bool, room: usize) -> Taken
     ensures { (one two : List ℕ) →
         effect_of result s one two ≡ command_of room waiting (parsed_of text.now) s one two }
@@ -30,8 +31,7 @@ pub fn take_command(s: State, text: &[u8], waiting: bool, room: usize) -> Taken
         return Err(Refusal::NoRoom);
     }
     let step = effect::storage_after(s.settings, s.acquisition, s.installation.capacity, kind);
-    let state = effect::state_after(s, kind, step);
-    Ok(Some(Plan { state, reply, step }))
+    Ok(Some(Plan { kind, reply, step }))
 }
 
 // One more command of a line, where `room` bytes are lent for the replies of the whole line.
@@ -52,6 +52,10 @@ fn run(s: State, text: &[u8], room: usize) -> Progress
 {
     let mut p = Progress::start(s);
     for part in text.split(|byte| *byte == b';') {
+        if part.is_empty() {
+            p = passed_over(p);
+            continue;
+        }
         p = step(p, part, room);
         if p.dropped {
             return p;

@@ -3,6 +3,7 @@
 
 ghost use Rattle.std.specs.Prelude.{◌≡◌, not, List, ℕ, ◌+◌, ◌≤◌, ◌<◌, length};
 ghost use Rattle.split.specs.Divide.{parts};
+ghost use Rattle.line.specs.Perform.{nothing, refused_by};
 ghost use Rattle.line.specs.Line.{after_command, run_all, start_line};
 ghost use Rattle.line.specs.Parts.{effect_of, texts_run, progress_after, progress_of, line_reached};
 ghost use Rattle.line_text.specs.Texts.{semicolon};
@@ -12,6 +13,7 @@ ghost use Rattle.reply_buffer.specs.After.{Meets};
 mod dry;
 mod quick;
 
+use command::Kind;
 use outcome::{Answer, Refusal};
 use reply::Reply;
 use state::State;
@@ -20,8 +22,8 @@ use storage::StorageStep;
 // A command that is not refused, before anything of it is written.
 #[derive(Clone, Copy)]
 pub struct Plan {
-    // The state after it.
-    pub state: State,
+    // What it asks for.
+    pub kind: Kind,
     // What it replies.
     pub reply: Reply,
     // What it does to storage.
@@ -58,6 +60,7 @@ impl Progress {
 }
 
 // What a command's text is taken for, written: the reply at the front of out, and what is stored.
+#[inline(always)]
 fn write(s: State, taken: Taken, one: &mut [u32], two: &mut [u32], out: &mut [u8])
     requires { length (effect_of taken s one.old two.old).out ≤ length out.old }
     ensures { (one.new ≡ (effect_of taken s one.old two.old).one)
@@ -75,23 +78,53 @@ fn write(s: State, taken: Taken, one: &mut [u32], two: &mut [u32], out: &mut [u8
 }
 
 // The line after one more command, by what its text is taken for.
+#[inline(always)]
 fn after(p: Progress, taken: Taken) -> Progress
     requires { ((one two : List ℕ) → p.at + length (effect_of taken p.state one two).out < 18446744073709551616)
         × (p.count < 1000) }
     ensures { (one two : List ℕ) → result ≡ progress_after p (effect_of taken p.state one two) }
 {
     let count = p.count + 1;
-    let (state, written, outcome) = match taken {
-        Ok(None) => (p.state, 0, Ok(())),
-        Ok(Some(plan)) => (plan.state, plan.reply.length(), Ok(())),
-        Err(refusal) => (state::with_error_bit(p.state, refusal), 0, Err(refusal)),
+    let plan = match taken {
+        Ok(Some(plan)) => plan,
+        Ok(None) => return passed_over(p),
+        Err(refusal) => return refused(p, refusal),
     };
     Progress {
-        state,
-        at: p.at + written,
-        answer: outcome::first_of(p.answer, outcome, count),
+        state: effect::state_after(p.state, plan.kind, plan.step),
+        at: p.at + plan.reply.length(),
         count,
-        dropped: outcome::drops(outcome),
+        dropped: false,
+        ..p
+    }
+}
+
+// The line after one more command that is refused.
+#[inline(always)]
+fn refused(p: Progress, refusal: Refusal) -> Progress
+    requires { p.count < 1000 }
+    ensures { (one two : List ℕ) → result ≡ progress_after p (refused_by refusal p.state one two) }
+{
+    let count = p.count + 1;
+    Progress {
+        state: state::with_error_bit(p.state, refusal),
+        answer: outcome::first_of(p.answer, Err(refusal), count),
+        count,
+        dropped: outcome::drops(Err(refusal)),
+        ..p
+    }
+}
+
+// The line after one more command that is empty.
+#[inline(always)]
+fn passed_over(p: Progress) -> Progress
+    requires { p.count < 1000 }
+    ensures { (one two : List ℕ) → result ≡ progress_after p (nothing p.state one two) }
+{
+    Progress {
+        count: p.count + 1,
+        dropped: false,
+        ..p
     }
 }
 
@@ -119,6 +152,10 @@ fn run(s: State, text: &[u8], one: &mut [u32], two: &mut [u32], reply: &mut [u8]
 {
     let mut p = Progress::start(s);
     for part in text.split(|byte| *byte == b';') {
+        if part.is_empty() {
+            p = passed_over(p);
+            continue;
+        }
         p = step(p, part, one, two, reply);
         if p.dropped {
             return p;
@@ -140,6 +177,9 @@ pub fn run_line(
         (start_line s one.old two.old))
         result one.new two.new reply.new reply.old }
 {
+    if line.is_empty() {
+        return passed_over(Progress::start(s));
+    }
     let c = line_text::clean(line);
     run(s, c.line(), one, two, reply)
 }

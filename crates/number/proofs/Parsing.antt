@@ -8,14 +8,15 @@ use mathlib.Core.List.{List, [], ◌∷◌, ◌++◌}
 use native.Mathlib.Omega.{arith}
 use native.Mathlib.Numerals.{add-one}
 use native.Mathlib.Nat.{add-zero, zero-add}
-use lib.Dec.{leb}
-use lib.ListN.{length, length-append, get_or, take, drop, drop_of_length-le}
-use lib.Seq.{take-length}
-use borrow.Author.Tests.{le-leb, lt-leb, lt-ltb, le-ltb, eq-eqb, ne_eqb, ltb-false}
-use Rattle.split.specs.Divide.{span, after}
+use lib.Dec.{leb, ltb, eqb}
+use lib.ListN.{length, length-append, length-drop, get_or, take, drop, drop_of_length-le}
+use lib.Seq.{take-length, length-take-le}
+use borrow.Author.Tests.{le-leb, lt-leb, lt-ltb, le-ltb, eq-eqb, ne_eqb, ltb-true, ltb-false}
+use Rattle.split.specs.Divide.{span, before, after}
 use Rattle.split.proofs.Span.{span_le, rest_from}
 use Rattle.laws.proofs.Tests.{split}
-use Rattle.number.specs.Number.{minus, letter_e, begins, unsigned, all_digits, is_exponent, is_mantissa, has_exponent, is_number}
+use Rattle.number.specs.Number.{plus, minus, point, letter_e, begins, unsigned, all_digits, digit_limit, digits, is_exponent}
+use Rattle.number.specs.Number.{is_mantissa, has_exponent, is_number}
 use Rattle.number.specs.Value.{decimal_after, exact_of}
 use Rattle.number.specs.Parts.{read_of}
 use Rattle.number.specs.TextParts.{are_digits, short_of, exponent_of, digits_of, mantissa_of, with_exponent, unsigned_of}
@@ -112,6 +113,51 @@ module _ (negative : Bool) (u : List ℕ) (decimals e : ℕ) (is : e ≡ span 69
   pub unsigned-plain : length u ≤ e → mantissa_of negative u decimals 0 ≡ unsigned_of negative u decimals
   unfolding unsigned_of
   unsigned-plain h = rw (le-ltb (span 69 u) (length u) (omega arith))
+
+-- a text without its sign has at most a byte less
+unsigned_length : (s : List ℕ) → length s ≤ suc (length (unsigned s))
+unfolding unsigned
+unsigned_length [] = omega arith
+unsigned_length (b ∷ bs) =
+    split (eqb b minus) (λ e. rw e (omega arith))
+    (λ e. rw e (split (eqb b plus) (λ f. rw f (omega arith)) (λ f. rw f (omega arith))))
+
+-- no mantissa is longer than its digits and a point
+long_mantissa : (m : List ℕ) → 17 ≤ length m → is_mantissa m ≡ false
+unfolding is_mantissa
+long_mantissa m h =
+    let e = span point m in
+    let long : digit_limit < length (digits m) =
+    omega (
+      arith,
+      length-append (before point m) (after point m),
+      length-take-le e m (span_le point m),
+      length-drop (suc e) m,
+    ) in
+    rw (lt-leb (length (digits m)) digit_limit long, and-false)
+
+-- no power is longer than a sign and two digits
+long_exponent : (x : List ℕ) → 4 ≤ length x → is_exponent x ≡ false
+unfolding is_exponent
+long_exponent x h = rw (lt-leb (length (unsigned x)) 2 (omega (arith, unsigned_length x)), and-false)
+
+-- no number is longer than a sign, a mantissa, "E" and a power
+pub long_number : (s : List ℕ) → 22 ≤ length s → is_number s ≡ false
+unfolding is_number
+long_number s h =
+    let u = unsigned s in
+    let e = span letter_e u in
+    let size = unsigned_length s in
+    split (ltb e 17)
+    (λ p.
+    let near = ltb-true e 17 p in
+    rw (
+      lt-ltb e (length u) (omega arith),
+      long_exponent (after letter_e u) (omega (arith, length-drop (suc e) u)),
+    ))
+    (λ p.
+    let far = ltb-false e 17 p in
+    rw (long_mantissa (before letter_e u) (omega (arith, length-take-le e u (span_le letter_e u))), and-false))
 
 -- the whole text: what is read of it is what the definition says
 pub read_is : (decimals : ℕ) (s : List ℕ) → unsigned_of (begins minus s) (unsigned s) decimals ≡ read_of decimals s

@@ -10,6 +10,9 @@ use super::{CAP, Quantity};
 // The most digits that a number has, point and exponent aside.
 const DIGIT_LIMIT: usize = 15;
 
+// The most bytes that a number has: its digits, two signs, a point, "E" and two digits after it.
+const TEXT_LIMIT: usize = DIGIT_LIMIT + 6;
+
 // A power of ten, as the digits by which the point moves.
 #[derive(Clone, Copy)]
 struct Power {
@@ -166,7 +169,7 @@ fn split_sign(text: &[u8]) -> (bool, &[u8])
 
 // The text after "E" as a power: a sign or none, then one digit or two. None is no power.
 fn read_exponent(x: &[u8]) -> Option<Power>
-    ensures { (result ≡ exponent_of x.now) × IfSome result (λ p. p.up ≤ short_most) }
+    ensures { (result ≡ exponent_of x.now) × IfSome result (λ p. (p.up ≤ short_most) × (p.down ≤ short_most)) }
 {
     let (negative, digits) = split_sign(x);
     let n = short_number(digits)?;
@@ -202,6 +205,9 @@ fn read_unsigned(u: &[u8], negative: bool, decimals: usize) -> Option<Quantity>
 pub fn read(text: &[u8], decimals: u8) -> Option<Quantity>
     ensures { result ≡ read_of decimals text.now }
 {
+    if TEXT_LIMIT < text.len() {
+        return None;
+    }
     let (negative, u) = split_sign(text);
     read_unsigned(u, negative, usize::from(decimals))
 }

@@ -59,13 +59,16 @@ fn write_value(out: &mut Output<'_, '_, impl Print>, m: &Module, field: Field) -
     }
 }
 
-// Writes a trace's words behind its name, with commas between them.
+// Writes a trace's words behind its name, with commas between them. By their bytes: a `write!` for each word is slower.
 fn write_trace(out: &mut Output<'_, '_, impl Print>, name: &str, trace: &[u32]) -> fmt::Result {
     write!(out, " {name}=")?;
-    let mut comma = "";
-    for word in trace {
-        write!(out, "{comma}{word:08x}")?;
-        comma = ",";
+    let mut words = trace.iter();
+    if let Some(word) = words.next() {
+        out.hex_bytes(&word.to_be_bytes());
+    }
+    for word in words {
+        out.byte(b',');
+        out.hex_bytes(&word.to_be_bytes());
     }
     Ok(())
 }

@@ -9,12 +9,12 @@ use terminal::Output;
 const UNTOUCHED: u8 = 0xaa;
 
 // A module, its traces, and a buffer for its replies.
-#[derive(Drop)]
+#[derive(Clone, Copy)]
 pub struct Session {
     // The module.
-    module: Module,
+    pub module: Module,
     // How many slots each of its traces has: the capacity at its start, whatever `alter` makes of it later.
-    slots: usize,
+    pub slots: usize,
     // Room for the longest trace 1.
     one: [u32; TRACE_MOST],
     // Room for the longest trace 2.

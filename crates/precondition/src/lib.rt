@@ -30,6 +30,7 @@ fn value_allowed(s: Settings, m: Acquisition, entry: usize, value: u32) -> bool
 }
 
 // Whether a set is allowed.
+#[inline(always)]
 fn set_allowed(s: Settings, m: Acquisition, a: SetArgument) -> bool
     ensures { result ≡ set_allowed s m a }
 {
@@ -53,6 +54,7 @@ fn query_allowed(m: Acquisition, q: QueryArgument) -> bool
 }
 
 // Whether a command is allowed: refused by 3 where it is not.
+#[inline(always)]
 pub fn is_allowed(s: Settings, m: Acquisition, kind: Kind) -> bool
     ensures { result ≡ is_allowed s m kind }
 {

@@ -72,6 +72,7 @@ fn point_index(s: Storage, capacity: u32, bin: u32) -> u64
 }
 
 // What a command replies: points for a trace read, a text for every other query, nothing for a command that is none.
+#[inline(always)]
 pub fn reply_to(s: State, kind: Kind, waiting: bool) -> Reply
     ensures { (one two : List ℕ) → bytes_said result one two ≡ reply_of kind s waiting one two }
 {

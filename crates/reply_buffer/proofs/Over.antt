@@ -7,10 +7,12 @@ use borrow.Author.Tests.{leb-true}
 use lib.Dec.{leb}
 use lib.ListN.{length, take, drop, length-append, length-drop}
 use lib.Seq.{take-append_seam, drop-append_seam, drop-drop}
+use Rattle.std.specs.Option.{IfSome}
 use Rattle.laws.proofs.Tests.{split}
 use Rattle.point.specs.Bytes.{low_first, little_endian}
 use Rattle.mnemonic.specs.declared.Form.{Form}
 use Rattle.reply_buffer.specs.Buffer.{overwrite, fits_in, sent_bytes, point_bytes}
+use Rattle.reply_buffer.specs.Parts.{sent_by}
 
 -- nothing is written: the room keeps its bytes
 pub over_none : (room : List ℕ) → overwrite [] room ≡ room
@@ -43,6 +45,10 @@ pub sent_bytes-length : (bytes : List ℕ) (room : ℕ) → length (sent_bytes b
 unfolding sent_bytes fits_in
 sent_bytes-length bytes room =
     split (leb (length bytes) room) (λ e. rw e (leb-true (length bytes) room e)) (λ e. rw e (omega arith))
+
+pub sent-written : (bytes : List ℕ) (room : ℕ) → IfSome (sent_by bytes room) (λ n. n ≡ length (sent_bytes bytes room))
+unfolding sent_bytes
+sent-written bytes room = split (fits_in bytes room) (λ e. rw e refl) (λ e. rw e tt)
 
 pub word-length : (x : ℕ) → length (little_endian x) ≡ 4
 unfolding low_first little_endian

@@ -10,7 +10,7 @@ use Rattle.laws.proofs.Tests.{never}
 use Rattle.split.specs.Divide.{parts}
 use Rattle.outcome.specs.declared.Refusal.{Refusal}
 use Rattle.outcome.specs.declared.Refusal.TheVariants.{NoReset}
-use Rattle.outcome.specs.Answer.{Answer, passed, refused_at}
+use Rattle.outcome.specs.Answer.{Answer, passed}
 use Rattle.outcome.specs.declared.PlacedRefusal.{PlacedRefusal}
 use Rattle.line_text.specs.Clean.{lf, cleaned}
 use Rattle.command.specs.Parsed.{parsed_of}

@@ -36,7 +36,7 @@ const NO_RESET: Objection = Objection {
 };
 
 // A line's commands: what is carried past them, or the first refusal among them, with its place.
-type LineCheck = Result<Extremes, PlacedRefusal>;
+pub type LineCheck = Result<Extremes, PlacedRefusal>;
 
 // The commands of a cleaned line, up to one that is refused.
 fn check_commands(model: Model, b: Extremes, text: &[u8]) -> LineCheck
@@ -63,8 +63,12 @@ fn check_line(model: Model, b: Extremes, line: &[u8]) -> LineCheck
     if line_text::LINE < line.len() {
         return Err(LONG_LINE);
     }
+    let extremes = extreme_courses::before_line(model, b);
+    if line.is_empty() {
+        return Ok(extremes);
+    }
     let c = line_text::clean(line);
-    check_commands(model, extreme_courses::before_line(model, b), c.line())
+    check_commands(model, extremes, c.line())
 }
 
 // The lines of a script, up to one that is too long or refused.

@@ -3,14 +3,28 @@ use mathlib.Core.Path.{◌≡◌, refl}
 use mathlib.Core.List.{List, [], ◌∷◌}
 use Prim.Native.Nat.{ℕ, zero, suc, ◌+◌, ◌-◌, ◌≤◌, ◌<◌}
 use native.Mathlib.Omega.{arith}
+use native.Mathlib.Numerals.{add-one}
 use lib.Dec.{eqb, ltb}
 use Rattle.std.specs.Option.{unwrap_or}
 use Rattle.std.specs.List.{position, position_or_len}
 use lib.ListN.{length, length-drop, take, drop, get_or}
-use lib.Seq.{drop-drop, take_all}
-use borrow.Author.Tests.{ltb-false}
+use lib.Seq.{drop-cons, drop-drop, drop-length, take_all}
+use borrow.Author.Tests.{eq-eqb, ltb-false, ne_eqb}
 use Rattle.laws.proofs.Tests.{split, cond_by}
 use Rattle.split.specs.Divide.{span, on_head, parts}
+
+-- the first separator from an index on: at it, further on, or none left
+pub span_hit : (sep : ℕ) (s : List ℕ) (i : ℕ) → i < length s → get_or s i 0 ≡ sep → span sep (drop i s) ≡ 0
+unfolding span
+span_hit sep s i h e = rw (drop-cons s i 0 h, eq-eqb (get_or s i 0) sep e)
+
+pub span_miss : (sep : ℕ) (s : List ℕ) (i : ℕ) → i < length s → (get_or s i 0 ≡ sep → ⊥) → span sep (drop i s) ≡ suc (span sep (drop (i + 1) s))
+unfolding span
+span_miss sep s i h e = rw (drop-cons s i 0 h, ne_eqb (get_or s i 0) sep e, add-one i)
+
+pub span-end : (sep : ℕ) (s : List ℕ) (i : ℕ) → i ≡ length s → span sep (drop i s) ≡ 0
+unfolding span
+span-end sep s i e = rw (e, drop-length s)
 
 pub span_le : (sep : ℕ) (xs : List ℕ) → span sep xs ≤ length xs
 unfolding span

@@ -3,7 +3,9 @@ ghost use Rattle.std.specs.Prelude.{◌≡◌, ◌<◌, ◌≤◌, length};
 ghost use Rattle.std.specs.Option.{IfSome, OnSome};
 
 // The value of a digit, in lower case where it is a letter.
-fn digit_value(b: u8) -> Option<u32> {
+fn digit_value(b: u8) -> Option<u32>
+    ensures { IfSome result (λ digit. digit < 16) }
+{
     match b {
         b'0'..=b'9' => Some((b - b'0') as u32),
         b'a'..=b'f' => Some((b - b'a') as u32 + 10),

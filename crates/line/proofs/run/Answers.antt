@@ -1,13 +1,16 @@
 -- `line::run` meets its contract: what is left of the line does what the whole does. Assumes nothing.
-use mathlib.Core.List.{◌∷◌}
-use mathlib.Core.Path.{◌≡◌, ap, ◌∙◌}
+use mathlib.Core.List.{[], ◌∷◌}
+use mathlib.Core.Path.{◌≡◌, refl, sym, ap, ◌∙◌}
 use native.Mathlib.Omega.{arith}
 use lib.ListN.{length}
 use borrow.Author.Rules.{rules}
-use borrow.Author.Tests.{tests}
+use borrow.Author.Tests.{tests, eqb-true}
+use Rattle.std.proofs.lemmas.List.{nil_from_length}
+use Rattle.outcome.specs.Answer.{drops}
 use Rattle.line_text.specs.Texts.{semicolon}
 use Rattle.split.proofs.Counted.{parts-length}
 use Rattle.split.proofs.Iterated.{left, left_all, left_none, left_some}
+use Rattle.line.proofs.Steps.{empty-holds}
 use Rattle.line.proofs.LoopStep.{at_start, ended, stopped, again}
 use Rattle.line.proofs.run.Goals as goal
 use Rattle.line.proofs.run.Goals.{In-Some}
@@ -26,6 +29,23 @@ one_more : (c : In-Some) →
 one_more c =
     left_some semicolon c.loop-part.part-iterator c.next.new.self c.in-Some.part c.in-Some.ensures.steps
     (λ b r q k. search (rules, tests))
+
+pub passed_over-p-requires : goal.passed_over-p-requires
+passed_over-p-requires c =
+    let more = one_more (goal.at.passed_over-p-requires c).In-Some in
+    omega (arith, ap length more, c.loop-part.invariant.counted, parts-length semicolon c.args.text.now, c.requires)
+
+pub loop-part-preserved-then-is_empty : goal.loop-part-preserved-then-is_empty
+unfolding drops
+loop-part-preserved-then-is_empty c =
+    let more = one_more (goal.at.loop-part-preserved-then-is_empty c).In-Some in
+    let part = c.in-Some.part.now in
+    let none : part ≡ [] = nil_from_length part (eqb-true (length part) 0 (sym c.is_empty.ensures ∙ c.if-is_empty.true)) in
+    let after = c.passed_over-p.ensures in
+    let v = c.loop-part.invariant in
+    let here = ap (λ r. r.at) (after [] []) in
+    again v part _ more _ _ _ _ (rw none (empty-holds _ _ _ _ _ v.fits after)) (omega arith) (omega (arith, v.fits))
+    (ap (λ r. r.dropped) (after [] [])) refl refl refl (ap (λ r. r.count) (after [] []))
 
 pub step-p-requires : goal.step-p-requires
 step-p-requires c =

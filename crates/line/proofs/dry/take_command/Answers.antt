@@ -5,7 +5,6 @@ use native.Mathlib.Omega.{arith}
 use borrow.Author.Rules.{rules}
 use Rattle.std.specs.Prelude.{Some, None, Ok, Err}
 use Rattle.command.specs.Parsed.{parsed_of}
-use Rattle.effect.specs.Effect.{state_after}
 use Rattle.line.specs.Perform.{command_of}
 use Rattle.line.specs.Parts.{effect_of}
 use Rattle.line.proofs.Effects.{by_three, by_four, as_planned}
@@ -42,10 +41,10 @@ returns-then-room-length c one two =
     c.length.result (c.length.ensures one two) (sym c.is_allowed.ensures ∙ c.if-not-is_allowed.false) (omega arith))
 
 pub returns : goal.returns
-unfolding effect_of command_of state_after
+unfolding effect_of command_of
 returns c one two =
     let a = c.args in
     let read : parsed_of a.text.now ≡ Ok (Some c.in-Some.c) = search rules in
-    rw (read, c.state_after-state.ensures, c.storage_after-step.ensures)
+    rw (read, c.storage_after-step.ensures)
     (as_planned a.room a.waiting c.in-Some.c.kind a.s one two c.reply_to-reply.result (c.reply_to-reply.ensures one two)
     c.length.result (c.length.ensures one two) (sym c.is_allowed.ensures ∙ c.if-not-is_allowed.false) (omega arith))

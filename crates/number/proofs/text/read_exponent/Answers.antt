@@ -19,11 +19,11 @@ returns-then-negative c =
     let s : short_of (unsigned c.args.x.now) ≡ Some c.in_ok-n.n =
     rw (← c.split_sign-negative.ensures.1, ← c.short_number.ensures.0) c.in_ok-n.was in
     let m : begins minus c.args.x.now ≡ true = sym c.split_sign-negative.ensures.0 ∙ c.if-negative.true in
-    (sym (exponent_is c.args.x.now ∙ rw (s, m)), omega arith)
+    (sym (exponent_is c.args.x.now ∙ rw (s, m)), (omega arith, rw c.in_ok-n.was at c.short_number.ensures.1))
 
 pub returns : goal.returns
 returns c =
     let s : short_of (unsigned c.args.x.now) ≡ Some c.in_ok-n.n =
     rw (← c.split_sign-negative.ensures.1, ← c.short_number.ensures.0) c.in_ok-n.was in
     let m : begins minus c.args.x.now ≡ false = sym c.split_sign-negative.ensures.0 ∙ c.if-negative.false in
-    (sym (exponent_is c.args.x.now ∙ rw (s, m)), rw c.in_ok-n.was at c.short_number.ensures.1)
+    (sym (exponent_is c.args.x.now ∙ rw (s, m)), (rw c.in_ok-n.was at c.short_number.ensures.1, omega arith))

@@ -24,7 +24,7 @@ pub slice_bounds-read_mantissa-end : goal.slice_bounds-read_mantissa-end
 slice_bounds-read_mantissa-end c = sym (length-take-le c.span_of-e.result c.args.u.now c.span_of-e.ensures.1)
 
 pub overflow_add-moved : goal.overflow_add-moved
-overflow_add-moved c = omega (arith, c.requires, rw c.in_ok-power.was at c.read_exponent.ensures.1)
+overflow_add-moved c = omega (arith, c.requires, (rw c.in_ok-power.was at c.read_exponent.ensures.1).0)
 
 pub returns-then-e-u : goal.returns-then-e-u
 unfolding with_exponent
